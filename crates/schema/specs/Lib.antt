@@ -1,0 +1,17 @@
+pub mod Rows
+pub mod Rules
+pub mod Books
+pub mod Webs
+pub mod Sheets
+pub mod Texts
+pub mod TextSheets
+pub mod Verdicts
+pub mod Reports
+pub mod Refusals
+pub mod Columns
+pub mod Masks
+pub mod Points
+pub mod Keys
+pub mod Checks
+pub mod Printing
+pub mod Judgements

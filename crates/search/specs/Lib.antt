@@ -1,0 +1,4 @@
+pub mod Leads
+pub mod Refusals
+pub mod Searched
+pub mod Trail
