@@ -1,8 +1,8 @@
 -- Binary digits: of a union, of a single bit, of a shift, and below the trailing zeros.
-use Prim.Native.Nat.{ℕ, zero, suc, _+_, _-_, _*_, _/_, _%_, _^_, _<_, _≤_, max}
+use Prim.Native.Nat.{ℕ, zero, suc, _+_, _-_, _*_, _/_, _%_, _^_, _<_, _≤_, max, min}
 use mathlib.Core.Path.{_≡_, refl, sym, ap, _∙_, subst}
 use mathlib.Core.Logic.{_⊎_, inl, inr, ⊎-elim}
-use lib.Bits.{bitOr, or-step}
+use lib.Bits.{bitAnd, bitOr, and-step, or-step}
 use lib.Count.{trailingZeros, under}
 use native.Mathlib.Nat.{add-zero, add-suc, div-one, pow-suc, pow-succ', div-div-eq-div-mul, not-suc-le-zero}
 use native.Mathlib.Omega.{arith}
@@ -66,3 +66,10 @@ bit-below-trailing (suc d) m k h = at (m % 2) refl k h (bit-below-trailing d (m 
     at zero e zero l ih = e
     at zero e (suc i) l ih = ih i (omega arith)
     at (suc r) e i l ih = absurd (not-suc-le-zero l)
+
+-- a digit of an intersection is set where both are
+pub bit-and : (k a b : ℕ) → bit k (bitAnd a b) ≡ min (bit k a) (bit k b)
+bit-and zero a b = omega (arith, and-step a b)
+bit-and (suc k) a b =
+    let e : bitAnd a b / 2 ≡ bitAnd (a / 2) (b / 2) = omega (arith, and-step a b) in
+    ap (bit k) e ∙ bit-and k (a / 2) (b / 2)

@@ -24,8 +24,8 @@ module _ (sets : List ℕ) (a b v : ℕ) (within : a < length sets) (joins : Joi
   member-more x y m =
       ⊎-elim
       (λ (e : x ≡ a).
-          let w : Member v y = subst (λ (s : ℕ). Member s y) (ap (λ (i : ℕ). getD (set sets a v) i 0) e ∙ getD-set-same sets a v 0 within) m in
-          ⊎-elim (λ (k : Member (getD sets a 0) y). inl (subst (λ (i : ℕ). Member (getD sets i 0) y) (sym e) k)) (λ (k : y ≡ b). inr (e, k)) (joins .only y w))
+      let w : Member v y = subst (λ (s : ℕ). Member s y) (ap (λ (i : ℕ). getD (set sets a v) i 0) e ∙ getD-set-same sets a v 0 within) m in
+      ⊎-elim (λ (k : Member (getD sets a 0) y). inl (subst (λ (i : ℕ). Member (getD sets i 0) y) (sym e) k)) (λ (k : y ≡ b). inr (e, k)) (joins .only y w))
       (λ (e : x ≡ a → ⊥). inl (subst (λ (s : ℕ). Member s y) (getD-set-other sets a x v 0 e) m))
       (cases-eq x a)
 
@@ -33,8 +33,8 @@ module _ (sets : List ℕ) (a b v : ℕ) (within : a < length sets) (joins : Joi
   member-kept x y m =
       ⊎-elim
       (λ (e : x ≡ a).
-          subst (λ (s : ℕ). Member s y) (sym (ap (λ (i : ℕ). getD (set sets a v) i 0) e ∙ getD-set-same sets a v 0 within))
-          (joins .kept y (subst (λ (i : ℕ). Member (getD sets i 0) y) e m)))
+      subst (λ (s : ℕ). Member s y) (sym (ap (λ (i : ℕ). getD (set sets a v) i 0) e ∙ getD-set-same sets a v 0 within))
+      (joins .kept y (subst (λ (i : ℕ). Member (getD sets i 0) y) e m)))
       (λ (e : x ≡ a → ⊥). subst (λ (s : ℕ). Member s y) (sym (getD-set-other sets a x v 0 e)) m)
       (cases-eq x a)
 
@@ -49,13 +49,13 @@ pub told-more : (l : ℕ) (sets : List ℕ) (rows : List Row) (r : Row) (v : ℕ
 told-more l sets rows r v e z w j t =
     record {
       only = λ a b m. ⊎-elim
-        (λ (k : Member (getD sets a 0) b). ∈-left (plain l a b) rows (r ∷ []) (t .only a b k))
-        (λ (k : (a ≡ r .a) × (b ≡ r .b)). subst (λ (q : Row). q ∈ (rows ++ r ∷ [])) (sym (row-is r l a b 0 e (sym (k .0)) (sym (k .1)) z)) (∈-last r rows))
-        (member-more sets (r .a) (r .b) v w j a b m);
+          (λ (k : Member (getD sets a 0) b). ∈-left (plain l a b) rows (r ∷ []) (t .only a b k))
+          (λ (k : (a ≡ r .a) × (b ≡ r .b)). subst (λ (q : Row). q ∈ (rows ++ r ∷ [])) (sym (row-is r l a b 0 e (sym (k .0)) (sym (k .1)) z)) (∈-last r rows))
+          (member-more sets (r .a) (r .b) v w j a b m);
       all = λ a b m. ⊎-elim
-        (λ (k : plain l a b ∈ rows). member-kept sets (r .a) (r .b) v w j a b (t .all a b k))
-        (λ (k : plain l a b ≡ r). member-new sets (r .a) (r .b) v w j a b (ap (λ (q : Row). q .a) k) (ap (λ (q : Row). q .b) k))
-        (∈-push (plain l a b) r rows m);
+          (λ (k : plain l a b ∈ rows). member-kept sets (r .a) (r .b) v w j a b (t .all a b k))
+          (λ (k : plain l a b ≡ r). member-new sets (r .a) (r .b) v w j a b (ap (λ (q : Row). q .a) k) (ap (λ (q : Row). q .b) k))
+          (∈-push (plain l a b) r rows m);
     }
 
 -- one more row of another letter
@@ -84,18 +84,18 @@ module _ (sets counts : List ℕ) (rows : List Row) (r : Row) (v : ℕ) (x : r .
   needed-lower h =
       record {
         some = λ a e l m. ⊎-elim (λ (k : Member (getD sets a 0) e). t .some a e l k)
-          (λ (k : (a ≡ r .a) × (e ≡ r .b)). let q : getD counts (64 * a + e) 0 ≡ getD counts (64 * r .a + r .b) 0 = ap (λ (i : ℕ). getD counts i 0) (omega (arith, k .0, k .1)) in omega arith)
-          (member-more sets (r .a) (r .b) v w j a e m);
+            (λ (k : (a ≡ r .a) × (e ≡ r .b)). let q : getD counts (64 * a + e) 0 ≡ getD counts (64 * r .a + r .b) 0 = ap (λ (i : ℕ). getD counts i 0) (omega (arith, k .0, k .1)) in omega arith)
+            (member-more sets (r .a) (r .b) v w j a e m);
         only = λ a e l m. ∈-left (needing a e (getD counts (64 * a + e) 0)) rows (r ∷ []) (t .only a e l m);
         all = λ a e n m. ⊎-elim
-          (λ (k : needing a e n ∈ rows). let q = t .all a e n k in (member-kept sets (r .a) (r .b) v w j a e (q .0), q .1))
-          (λ (k : needing a e n ≡ r).
-              let ka : a ≡ r .a = ap (λ (q : Row). q .a) k in
-              let kb : e ≡ r .b = ap (λ (q : Row). q .b) k in
-              let kn : n ≡ r .n = ap (λ (q : Row). q .n) k in
-              let q : getD counts (64 * a + e) 0 ≡ getD counts (64 * r .a + r .b) 0 = ap (λ (i : ℕ). getD counts i 0) (omega arith) in
-              (member-new sets (r .a) (r .b) v w j a e ka kb, omega arith))
-          (∈-push (needing a e n) r rows m);
+            (λ (k : needing a e n ∈ rows). let q = t .all a e n k in (member-kept sets (r .a) (r .b) v w j a e (q .0), q .1))
+            (λ (k : needing a e n ≡ r).
+            let ka : a ≡ r .a = ap (λ (q : Row). q .a) k in
+            let kb : e ≡ r .b = ap (λ (q : Row). q .b) k in
+            let kn : n ≡ r .n = ap (λ (q : Row). q .n) k in
+            let q : getD counts (64 * a + e) 0 ≡ getD counts (64 * r .a + r .b) 0 = ap (λ (i : ℕ). getD counts i 0) (omega arith) in
+            (member-new sets (r .a) (r .b) v w j a e ka kb, omega arith))
+            (∈-push (needing a e n) r rows m);
       }
 
   pub needed-higher : 64 * r .a + r .b < length counts → getD counts (64 * r .a + r .b) 0 < r .n
@@ -106,33 +106,34 @@ module _ (sets counts : List ℕ) (rows : List Row) (r : Row) (v : ℕ) (x : r .
       let there : (i : ℕ) → (i ≡ p → ⊥) → getD (set counts p (r .n)) i 0 ≡ getD counts i 0 = λ i e. getD-set-other counts p i (r .n) 0 e in
       record {
         some = λ a e l m. ⊎-elim
-          (λ (q : 64 * a + e ≡ p). omega (arith, here (64 * a + e) q))
-          (λ (q : 64 * a + e ≡ p → ⊥). ⊎-elim
-              (λ (k : Member (getD sets a 0) e). omega (arith, there (64 * a + e) q, t .some a e l k))
-              (λ (k : (a ≡ r .a) × (e ≡ r .b)). absurd (q (omega (arith, k .0, k .1))))
-              (member-more sets (r .a) (r .b) v w j a e m))
-          (cases-eq (64 * a + e) p);
+            (λ (q : 64 * a + e ≡ p). omega (arith, here (64 * a + e) q))
+            (λ (q : 64 * a + e ≡ p → ⊥). ⊎-elim
+            (λ (k : Member (getD sets a 0) e). omega (arith, there (64 * a + e) q, t .some a e l k))
+            (λ (k : (a ≡ r .a) × (e ≡ r .b)). absurd (q (omega (arith, k .0, k .1))))
+            (member-more sets (r .a) (r .b) v w j a e m))
+            (cases-eq (64 * a + e) p);
         only = λ a e l m. ⊎-elim
-          (λ (q : 64 * a + e ≡ p).
-              let ka : r .a ≡ a = omega arith in
-              let kb : r .b ≡ e = omega arith in
-              subst (λ (s : Row). s ∈ (rows ++ r ∷ [])) (sym (row-is r 70 a e (getD (set counts p (r .n)) (64 * a + e) 0) x ka kb (sym (here (64 * a + e) q)))) (∈-last r rows))
-          (λ (q : 64 * a + e ≡ p → ⊥).
-              let s = there (64 * a + e) q in
-              subst (λ (n : ℕ). needing a e n ∈ (rows ++ r ∷ [])) (sym s)
-              (∈-left (needing a e (getD counts (64 * a + e) 0)) rows (r ∷ []) (t .only a e l (omega (arith, s, m)))))
-          (cases-eq (64 * a + e) p);
+            (λ (q : 64 * a + e ≡ p).
+            let ka : r .a ≡ a = omega arith in
+            let kb : r .b ≡ e = omega arith in
+            subst (λ (s : Row). s ∈ (rows ++ r ∷ [])) (sym (row-is r 70 a e (getD (set counts p (r .n)) (64 * a + e) 0) x ka kb (sym (here (64 * a + e) q)))) (∈-last r rows))
+            (λ (q : 64 * a + e ≡ p → ⊥).
+            let s = there (64 * a + e) q in
+            subst (λ (n : ℕ). needing a e n ∈ (rows ++ r ∷ [])) (sym s)
+            (∈-left (needing a e (getD counts (64 * a + e) 0)) rows (r ∷ []) (t .only a e l (omega (arith, s, m)))))
+            (cases-eq (64 * a + e) p);
         all = λ a e n m. ⊎-elim
-          (λ (k : needing a e n ∈ rows). let q = t .all a e n k in
-              (member-kept sets (r .a) (r .b) v w j a e (q .0),
-               ⊎-elim (λ (s : 64 * a + e ≡ p). let z : getD counts (64 * a + e) 0 ≡ getD counts p 0 = ap (λ (i : ℕ). getD counts i 0) s in omega (arith, here (64 * a + e) s, q .1))
-                 (λ (s : 64 * a + e ≡ p → ⊥). omega (arith, there (64 * a + e) s, q .1)) (cases-eq (64 * a + e) p)))
-          (λ (k : needing a e n ≡ r).
-              let ka : a ≡ r .a = ap (λ (q : Row). q .a) k in
-              let kb : e ≡ r .b = ap (λ (q : Row). q .b) k in
-              let kn : n ≡ r .n = ap (λ (q : Row). q .n) k in
-              (member-new sets (r .a) (r .b) v w j a e ka kb, omega (arith, here (64 * a + e) (omega arith))))
-          (∈-push (needing a e n) r rows m);
+            (λ (k : needing a e n ∈ rows). let q = t .all a e n k in (
+              member-kept sets (r .a) (r .b) v w j a e (q .0),
+              ⊎-elim (λ (s : 64 * a + e ≡ p). let z : getD counts (64 * a + e) 0 ≡ getD counts p 0 = ap (λ (i : ℕ). getD counts i 0) s in omega (arith, here (64 * a + e) s, q .1))
+                  (λ (s : 64 * a + e ≡ p → ⊥). omega (arith, there (64 * a + e) s, q .1)) (cases-eq (64 * a + e) p),
+            ))
+            (λ (k : needing a e n ≡ r).
+            let ka : a ≡ r .a = ap (λ (q : Row). q .a) k in
+            let kb : e ≡ r .b = ap (λ (q : Row). q .b) k in
+            let kn : n ≡ r .n = ap (λ (q : Row). q .n) k in
+            (member-new sets (r .a) (r .b) v w j a e ka kb, omega (arith, here (64 * a + e) (omega arith))))
+            (∈-push (needing a e n) r rows m);
       }
 
 -- what a sound row of a letter keeps to

@@ -1,6 +1,7 @@
 -- Arrows that another arrow leads to, and the caps on them.
 use Prim.Native.Nat.{ℕ, _+_, _/_, _<_, _≤_}
 use mathlib.Core.Path.{_≡_, refl, sym, ap, _∙_, subst}
+use mathlib.Core.Bool.{Bool, true, false}
 use mathlib.Core.Logic.{_⊎_, inl, inr, ⊎-elim}
 use mathlib.Core.List.{List, [], _∷_, _++_}
 use native.Mathlib.Omega.{arith}
@@ -17,7 +18,7 @@ use Rattle.schema.specs.Masks.{Member, Joins}
 use Rattle.schema.specs.Rows.{_∈_, limit, shapeOf, Fits, Sound, AllSound}
 use Rattle.schema.specs.Rules.{K, P, row, Has, arrow}
 use Rattle.schema.specs.Webs.{ArrowLink, Alone}
-use Rattle.schema.specs.Verdicts.{CapsShared}
+use Rattle.schema.specs.Verdicts.{CapsShared, Tells}
 use Rattle.schema.specs.Checks.{Shared}
 use Rattle.schema.proofs.Members.{∈-left, ∈-last, ∈-push}
 use Rattle.schema.proofs.Building.{row-is}
@@ -52,6 +53,11 @@ module _ (rows : List Row) (set : ℕ) (told : Shared rows set) where
   pub other-alone : (q : ℕ) → (Member set q → ⊥) → Alone rows q
   other-alone q f = alone rows q (λ p h. ⊎-elim (λ (e : p ≡ q). e) (λ (e : p ≡ q → ⊥). absurd (f (told .all p q h e))) (cases-eq p q))
 
+  -- a test of membership tells whether an arrow is shared
+  pub member-tells : (b : Bool) (q : ℕ) → Tells b (Member set q) → Tells b (Alone rows q → ⊥)
+  member-tells true q m = member-shared q m
+  member-tells false q f = λ s. s (other-alone q f)
+
   -- a K row on such an arrow
   pub caps : (r : Row) → r .letter ≡ 75 → Member set (arrow (r .b)) → CapsShared rows r
   caps r e m = (r .a, r .b, r .n, sym (row-is r 75 (r .a) (r .b) (r .n) e refl refl refl), member-shared (arrow (r .b)) m)
@@ -71,18 +77,18 @@ shared-other rows set r f t =
     record {
       only = λ q m. let s = t .only q m in (s .0, ∈-left (row (P (s .0) q)) rows (r ∷ []) (s .1), s .2);
       all = λ p q h e. ⊎-elim (λ (k : Has rows (P p q)). t .all p q k e)
-        (λ (k : row (P p q) ≡ r).
-            absurd (e (ap (λ (x : Row). x .a) k ∙ f (sym (ap (λ (x : Row). x .letter) k)) ∙ sym (ap (λ (x : Row). x .b) k))))
-        (∈-push (row (P p q)) r rows h);
+          (λ (k : row (P p q) ≡ r).
+          absurd (e (ap (λ (x : Row). x .a) k ∙ f (sym (ap (λ (x : Row). x .letter) k)) ∙ sym (ap (λ (x : Row). x .b) k))))
+          (∈-push (row (P p q)) r rows h);
     }
 
 pub shared-more : (rows : List Row) (set v : ℕ) (r : Row) → r .letter ≡ 80 → r .n ≡ 0 → (r .a ≡ r .b → ⊥) → Joins set (r .b) v → Shared rows set → Shared (rows ++ r ∷ []) v
 shared-more rows set v r l z e j t =
     record {
       only = λ q m. ⊎-elim (λ (k : Member set q). let s = t .only q k in (s .0, ∈-left (row (P (s .0) q)) rows (r ∷ []) (s .1), s .2))
-        (λ (k : q ≡ r .b). (r .a, subst (λ (x : Row). x ∈ (rows ++ r ∷ [])) (sym (row-is r 80 (r .a) q 0 l refl (sym k) z)) (∈-last r rows), λ x. e (x ∙ k)))
-        (j .only q m);
+          (λ (k : q ≡ r .b). (r .a, subst (λ (x : Row). x ∈ (rows ++ r ∷ [])) (sym (row-is r 80 (r .a) q 0 l refl (sym k) z)) (∈-last r rows), λ x. e (x ∙ k)))
+          (j .only q m);
       all = λ p q h n. ⊎-elim (λ (k : Has rows (P p q)). j .kept q (t .all p q k n))
-        (λ (k : row (P p q) ≡ r). subst (Member v) (sym (ap (λ (x : Row). x .b) k)) (j .new))
-        (∈-push (row (P p q)) r rows h);
+          (λ (k : row (P p q) ≡ r). subst (Member v) (sym (ap (λ (x : Row). x .b) k)) (j .new))
+          (∈-push (row (P p q)) r rows h);
     }

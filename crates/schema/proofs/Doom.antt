@@ -12,20 +12,12 @@ use Rattle.schema.specs.declared.keys.Keys.{Keys}
 use Rattle.schema.specs.Masks.{Member}
 use Rattle.schema.specs.Rows.{AllSound}
 use Rattle.schema.specs.Rules.{arrow}
-use Rattle.schema.specs.Keys.{keyed, Torn, Known, Surveyed, Backward, is-torn, to-class, to-end, other-end}
+use Rattle.schema.specs.Keys.{keyed, EmptyKeys, Torn, Known, Surveyed, Backward, is-torn, to-class, to-end, other-end}
 use Rattle.schema.specs.Verdicts.{Bit}
 use Rattle.schema.specs.Webs.{Description, cls, mark, Link, Apart, ArrowLink, ArrowApart, Clashing, Name, desc, arr, Empty, EmptyClass, EmptyArrow, clash, leads, clash-arrow, of-end, of-arrow}
 use Rattle.schema.proofs.Reach.{leads-placed}
-use Rattle.schema.proofs.Studied.{keyed-class, keyed-end, keyed-placed, bit-same}
-
--- a bit that is 1, or whose fact holds
-pub bit-one : {b : ℕ} {A : Type 0} → Bit b A → b ≡ 1 → A
-bit-one (inl (e, a)) o = a
-bit-one (inr (e, f)) o = absurd (omega arith)
-
-pub bit-holds : {b : ℕ} {A : Type 0} → Bit b A → A → b ≡ 1
-bit-holds (inl (e, a)) x = e
-bit-holds (inr (e, f)) x = absurd (f x)
+use Rattle.schema.proofs.Signs.{bit-one, bit-holds, bit-same}
+use Rattle.schema.proofs.KeyReach.{keyed-class, keyed-end, keyed-mark, keyed-placed}
 
 module _ (rows : List Row) (sound : AllSound 64 32 rows) (w : Keys) (known : Surveyed rows 128 w) where
   abbrev Step : ℕ → ℕ → Type 0
@@ -87,7 +79,7 @@ module _ (rows : List Row) (sound : AllSound 64 32 rows) (w : Keys) (known : Sur
       across : Fate (desc (mark e 1)) → (k : ℕ) → 64 ≤ k → k < 128 → (k - 64) / 2 ≡ arrow e → Doomed k
       across f k l h q =
           let i : 64 + e < 128 = omega arith in
-          let s : keyed (64 + e) ≡ mark e 1 = keyed-end (64 + e) (omega arith) ∙ ap (λ (x : ℕ). mark x 1) (omega arith) in
+          let s = keyed-mark e in
           let d : Doomed (64 + e) = f (64 + e) i (subst (λ (t : Description). Leads (Link rows) t (mark e 1)) (sym s) stay) in
           leads-then d (step-to (64 + e) k (omega arith) h (other-end (omega arith) i h (omega arith)))
   empty-doomed (of-arrow {e} z) = λ k h q. onward (empty-doomed z) k h q
@@ -111,16 +103,16 @@ module _ (rows : List Row) (sound : AllSound 64 32 rows) (w : Keys) (known : Sur
 
 -- a byte that is the byte of a class's key
 pub class-bit : (rows : List Row) (empty : List ℕ) (b k : ℕ) → k < 64 → b ≡ getD empty k 0
-    → ((i : ℕ) → i < 128 → Bit (getD empty i 0) (Empty rows (desc (keyed i)))) → Bit b (EmptyClass rows k)
+    → EmptyKeys rows empty → Bit b (EmptyClass rows k)
 class-bit rows empty b k h e f =
     subst (λ (d : Description). Bit b (Empty rows (desc d))) (keyed-class k h) (subst (λ (x : ℕ). Bit x (Empty rows (desc (keyed k)))) (sym e) (f k (omega arith)))
 
 -- a byte that is the byte of an arrow's tail
 pub arrow-bit : (rows : List Row) (empty : List ℕ) (b k : ℕ) → k < 32 → b ≡ getD empty (64 + 2 * k) 0
-    → ((i : ℕ) → i < 128 → Bit (getD empty i 0) (Empty rows (desc (keyed i)))) → Bit b (EmptyArrow rows k)
+    → EmptyKeys rows empty → Bit b (EmptyArrow rows k)
 arrow-bit rows empty b k h e f =
-    let q : keyed (64 + 2 * k) ≡ mark (2 * k) 1 = keyed-end (64 + 2 * k) (omega arith) ∙ ap (λ (x : ℕ). mark x 1) (omega arith) in
+    let q = keyed-mark (2 * k) in
     let t : Bit b (Empty rows (desc (mark (2 * k) 1))) =
-        subst (λ (d : Description). Bit b (Empty rows (desc d))) q (subst (λ (x : ℕ). Bit x (Empty rows (desc (keyed (64 + 2 * k))))) (sym e) (f (64 + 2 * k) (omega arith))) in
+    subst (λ (d : Description). Bit b (Empty rows (desc d))) q (subst (λ (x : ℕ). Bit x (Empty rows (desc (keyed (64 + 2 * k))))) (sym e) (f (64 + 2 * k) (omega arith))) in
     let same : arrow (2 * k) ≡ k = omega arith in
     bit-same b (λ z. subst (λ (p : ℕ). Empty rows (arr p)) same (of-end {e = 2 * k} z)) (λ z. of-arrow {e = 2 * k} (subst (λ (p : ℕ). Empty rows (arr p)) (sym same) z)) t

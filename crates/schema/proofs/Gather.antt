@@ -6,7 +6,7 @@ use mathlib.Core.Logic.{_⊎_, inl, inr, ⊎-elim}
 use native.Mathlib.Omega.{arith}
 use native.Mathlib.Nat.{not-suc-le-zero}
 use Rattle.std.proofs.shelf.Tests.{cases-lt, cases-eq}
-use Rattle.schema.specs.Masks.{Member, Joins, Gathers, Tells}
+use Rattle.schema.specs.Masks.{Member, Joins, Gathers}
 use Rattle.schema.proofs.Bits.{bit-zero}
 
 -- at first nothing is gathered

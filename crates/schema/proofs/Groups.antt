@@ -54,6 +54,21 @@ mark-apart : (last : Bool) (x y : ℕ) → mark last x ≡ mark last y → x / 1
 mark-apart true x y e h = omega arith
 mark-apart false x y e h = grind (arith, eqb-true, eqb-false)
 
+-- a blank shows 0
+blank-zero : (x : ℕ) → mark false x ≡ 32 → x ≡ 0
+blank-zero x e = grind (arith, eqb-true, eqb-false)
+
+-- a group that begins with a blank tells its number
+pub group-same : (x y : ℕ) → y ≤ 999 → group x ≡ group y → x ≡ y
+group-same x y few e =
+    let column : (j : ℕ) → j < 4 → mark (eqb j 3) (shed (3 - j) x) ≡ mark (eqb j 3) (shed (3 - j) y) =
+    λ j h. sym (column-is j x h) ∙ ap (λ l. getD l j 0) e ∙ column-is j y h in
+    let next : (j : ℕ) → j < 4 → shed (4 - j) x ≡ shed (4 - j) y → shed (3 - j) x ≡ shed (3 - j) y =
+    λ j h f. mark-apart (eqb j 3) (shed (3 - j) x) (shed (3 - j) y) (column j h) (sym (shed-next j x h) ∙ f ∙ shed-next j y h) in
+    let none : shed 3 y ≡ 0 = omega arith in
+    let first : shed 3 x ≡ shed 3 y = blank-zero (shed 3 x) (column 0 (omega arith) ∙ ap (mark false) none) ∙ sym none in
+    next 3 (omega arith) (next 2 (omega arith) (next 1 (omega arith) first))
+
 -- the first j columns of bytes are those of the numbers that go on from v, and of no others
 pub record Begun (bytes : List ℕ) (j v : ℕ) : Type 0 where
   pub small : v < 10 ^ j

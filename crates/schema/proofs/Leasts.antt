@@ -13,9 +13,9 @@ least-either {n} {at} {r} {s} {m} {A} {B} {C} a b e l k split =
     record {
       within = omega (arith, a .within, b .within);
       from = λ h. ⊎-elim (λ (u : r < s). let q : m ≡ r = omega arith in let p : at ≤ r = a .from (omega arith) in omega arith)
-        (λ (u : s ≤ r). let q : m ≡ s = omega arith in let p : at ≤ s = b .from (omega arith) in omega arith) (cases-lt r s);
+          (λ (u : s ≤ r). let q : m ≡ s = omega arith in let p : at ≤ s = b .from (omega arith) in omega arith) (cases-lt r s);
       found = λ h. ⊎-elim (λ (u : r < s). let q : m ≡ r = omega arith in subst C (sym q) (l r (a .found (omega arith))))
-        (λ (u : s ≤ r). let q : m ≡ s = omega arith in subst C (sym q) (k s (b .found (omega arith)))) (cases-lt r s);
+          (λ (u : s ≤ r). let q : m ≡ s = omega arith in subst C (sym q) (k s (b .found (omega arith)))) (cases-lt r s);
       none = λ i h j c. ⊎-elim (λ x. a .none i h (omega arith) x) (λ y. b .none i h (omega arith) y) (split i c);
     }
 

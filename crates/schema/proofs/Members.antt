@@ -68,15 +68,25 @@ module _ {A : Type 0} where
       let s : getD xs j d ≡ x = cc in
       subst P s (f j l)
 
+  -- one more of a list, found by its place
+  pub nth-more : (src : List A) (k : ℕ) (x : A) → k < length src → Some x ≡ nth src k → take (k + 1) src ≡ take k src ++ x ∷ []
+  nth-more src k x l e =
+      let q : Some x ≡ Some (getD src k x) = e ∙ nth-getD src k x l in
+      let s : getD src k x ≡ x = cc in
+      take-more src k x l ∙ ap (λ (y : A). take k src ++ y ∷ []) s
+
   -- one more row is copied
   pub copied-more : (src buf : List A) (k : ℕ) (x : A) → k < length buf → Some x ≡ nth src k → k < length src → take k buf ≡ take k src → take (k + 1) (set buf k x) ≡ take (k + 1) src
-  copied-more src buf k x h e l t =
-      let q : Some x ≡ Some (getD src k x) = e ∙ nth-getD src k x l in
-      let s : x ≡ getD src k x = cc in
-      take-more-set buf k x h ∙ ap (λ (xs : List A). xs ++ x ∷ []) t ∙ ap (λ (y : A). take k src ++ y ∷ []) s ∙ sym (take-more src k x l)
+  copied-more src buf k x h e l t = take-more-set buf k x h ∙ ap (λ (xs : List A). xs ++ x ∷ []) t ∙ sym (nth-more src k x l e)
 
   -- there is a row below the number of rows
   pub not-past : (src : List A) (k : ℕ) (x : A) → k < length src → None ≡ nth src k → ⊥
   not-past src k x l e =
       let q : None ≡ Some (getD src k x) = e ∙ nth-getD src k x l in
       let z : _≡_ {A = ℕ} 0 1 = cc in omega arith
+
+  -- one of a list stands at a place
+  pub place-of : (x : A) (xs : List A) (d : A) → x ∈ xs → (i : ℕ) × (i < length xs) × (getD xs i d ≡ x)
+  place-of x [] d h = absurd h
+  place-of x (y ∷ xs) d (inl e) = (0, omega arith, sym e)
+  place-of x (y ∷ xs) d (inr h) = let r = place-of x xs d h in (suc (r .0), omega (arith, r .1), r .2)

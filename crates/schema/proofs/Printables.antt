@@ -11,12 +11,13 @@ use Rattle.std.proofs.shelf.Lists.{length-take, take-all}
 use Rattle.std.proofs.shelf.Maps.{nth-past}
 use Rattle.std.proofs.shelf.Tests.{cases-lt}
 use Rattle.schema.specs.declared.faults.TextFault.{TextFault}
+use Rattle.schema.specs.declared.faults.SheetFault.{SheetFault}
 use Rattle.schema.specs.declared.faults.CheckFault.{CheckFault}
 use Rattle.schema.specs.declared.row.Row.{Row}
-use Rattle.schema.specs.Refusals.{textNotice, checkNotice}
+use Rattle.schema.specs.Refusals.{textNotice, sheetNotice, checkNotice}
 use Rattle.schema.specs.Rows.{Unsound, letter-unsound, a-unsound, b-unsound, n-unsound}
 use Rattle.schema.specs.Texts.{BadColumn, lineAt, line, TextFaulty, too-short, header-form, too-large, wrong-length, row-form, row-unsound}
-use Rattle.schema.specs.Verdicts.{CheckFaulty, over-limits, unsound-row, capped}
+use Rattle.schema.specs.Verdicts.{SheetFaulty, over-limits, unsound-row, CheckFaulty, sheet-faulty, capped}
 use Rattle.schema.specs.Printing.{Printable}
 
 -- a line of a text has fourteen bytes at most
@@ -67,13 +68,17 @@ text-printable (row-unsound c p n i field r until _ _ bad) =
     let few = field-few bad in
     record { number = omega arith; first = omega arith; second = omega arith }
 
--- what a refused sheet names
-pub check-printable : {c p : ℕ} {rows : List Row} {f : CheckFault} → CheckFaulty c p rows f → Printable (checkNotice f)
-check-printable (over-limits _) = record { number = omega arith; first = omega arith; second = omega arith }
-check-printable {rows = rows} (unsound-row k field r small e _ bad) =
+-- what a sheet without a text names
+sheet-printable : {c p : ℕ} {rows : List Row} {f : SheetFault} → SheetFaulty c p rows f → Printable (sheetNotice f)
+sheet-printable (over-limits _) = record { number = omega arith; first = omega arith; second = omega arith }
+sheet-printable {rows = rows} (unsound-row k field r small e _ bad) =
     let within = row-within rows k r e in
     let few = field-few bad in
     record { number = omega arith; first = omega arith; second = omega arith }
+
+-- what a refused sheet names
+pub check-printable : {c p : ℕ} {rows : List Row} {f : CheckFault} → CheckFaulty c p rows f → Printable (checkNotice f)
+check-printable (sheet-faulty _ h) = sheet-printable h
 check-printable {rows = rows} (capped k r small _ e _ _) =
     let within = row-within rows k r e in
     record { number = omega arith; first = omega arith; second = omega arith }

@@ -12,13 +12,8 @@ use Rattle.schema.specs.declared.descriptions.Descriptions.{Descriptions}
 use Rattle.schema.specs.Masks.{Member}
 use Rattle.schema.specs.Rows.{_∈_, AllSound}
 use Rattle.schema.specs.Rules.{S, D, F, P, row, Has, arrow, side}
-use Rattle.schema.specs.Points.{point, ToClasses, ToNeeds, ToArrows, Ways, up, need, domain, below, along, Onward, Built}
+use Rattle.schema.specs.Points.{point, Placed, ToClasses, ToNeeds, ToArrows, Ways, up, need, domain, below, along, Onward, Built}
 use Rattle.schema.specs.Webs.{Description, cls, mark, Link, by-S, by-F, by-D, down, by-P}
-
--- the descriptions that have a point
-abbrev pub Placed : Description → Type 0
-Placed (cls a) = a < 64
-Placed (mark e m) = (e < 64) × (1 ≤ m) × (m ≤ 31)
 
 pub point-below : (d : Description) → Placed d → point d < 2048
 point-below (cls a) h = omega arith
@@ -75,16 +70,24 @@ module _ (rows : List Row) (w : Descriptions) (built : Built rows w) (sound : Al
   from-mark e m j h (up z t) = absurd (omega arith)
   from-mark e m j h (need z t) = absurd (omega arith)
   from-mark e m j h (domain z t) =
-      record { to = cls (t .class); placed = t .small; is = t .is;
-        linked = subst (λ (x : ℕ). Link rows (mark e x) (cls (t .class))) (sym z) (by-D (built .domains .only e (t .class) (t .member))) }
+      record {
+        to = cls (t .class);
+        placed = t .small;
+        is = t .is;
+        linked = subst (λ (x : ℕ). Link rows (mark e x) (cls (t .class))) (sym z) (by-D (built .domains .only e (t .class) (t .member)));
+      }
   from-mark e m j h (below l z) =
       record { to = mark e (m - 1); placed = (h .0, omega arith, omega arith); is = omega arith; linked = down (omega arith) (omega arith) }
   from-mark e m j h (along l t) =
       let f = 2 * t .arrow + side e in
       let has : Has rows (P (arrow e) (t .arrow)) = built .overs .only (arrow e) (t .arrow) (t .member) in
       let q : t .arrow ≡ arrow f = omega arith in
-      record { to = mark f m; placed = (omega (arith, t .small), h .1, h .2); is = omega (arith, t .is);
-        linked = by-P {e = e} {f = f} {m = m} (subst (λ (x : ℕ). Has rows (P (arrow e) x)) q has) (omega arith) }
+      record {
+        to = mark f m;
+        placed = (omega (arith, t .small), h .1, h .2);
+        is = omega (arith, t .is);
+        linked = by-P {e = e} {f = f} {m = m} (subst (λ (x : ℕ). Has rows (P (arrow e) x)) q has) (omega arith);
+      }
 
   target : (d : Description) (i j : ℕ) → Placed d → i ≡ point d → Onward w i j → Target d j
   target (cls a) i j h e o =

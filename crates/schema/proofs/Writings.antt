@@ -32,14 +32,15 @@ list-begun cs ps before s t after m n end len few-cs few-ps room is-m is-n e f a
       bytes = arrows ∙ (spliced-start (listing cs ps) before ∙ ap (λ n. listing cs ps ++ drop n before) long);
     }
 
+-- what stands in the first bytes, and after them
+pub begun-front : {text before after : List ℕ} {len : ℕ} → Begun text before len after → take len after ≡ text
+begun-front {text} {before} {after} {len} b = ap (take len) (b .bytes) ∙ take-at text (drop len before) len (sym (b .whole))
+
+pub begun-later : {text before after : List ℕ} {len : ℕ} → Begun text before len after → drop len after ≡ drop len before
+begun-later {text} {before} {after} {len} b = ap (drop len) (b .bytes) ∙ drop-at text (drop len before) len (sym (b .whole))
+
 -- a report over the first bytes is written
 pub written : {text report before after : List ℕ} {len : ℕ} → ReportIs text report → 1358 ≤ length before → Begun report before len after
     → Written text before len after
-written {text} {report} {before} {after} {len} is room b =
-    let front : take len after ≡ report = ap (take len) (b .bytes) ∙ take-at report (drop len before) len (sym (b .whole)) in
-    record {
-      room = room;
-      short = b .short;
-      bytes = subst (ReportIs text) (sym front) is;
-      later = ap (drop len) (b .bytes) ∙ drop-at report (drop len before) len (sym (b .whole));
-    }
+written {text} is room b =
+    record { room = room; short = b .short; bytes = subst (ReportIs text) (sym (begun-front b)) is; later = begun-later b }

@@ -2,9 +2,15 @@ pub mod Rows
 pub mod Rules
 pub mod Books
 pub mod Webs
+pub mod Worlds
+pub mod Questions
+pub mod Asked
+pub mod Truth
 pub mod Sheets
 pub mod Texts
 pub mod TextSheets
+pub mod Loading
+pub mod Prints
 pub mod Verdicts
 pub mod Reports
 pub mod Refusals
@@ -12,6 +18,7 @@ pub mod Columns
 pub mod Masks
 pub mod Points
 pub mod Keys
+pub mod Found
 pub mod Checks
 pub mod Printing
 pub mod Judgements

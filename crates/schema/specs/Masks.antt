@@ -1,7 +1,6 @@
 -- Sets of numbers below 64 as the bits of a word. For inner contracts: no call's promise rests on it.
 use Prim.Native.Nat.{ℕ, zero, suc, _/_, _%_, _<_, _≤_}
 use mathlib.Core.Path.{_≡_}
-use mathlib.Core.Bool.{Bool, true, false}
 use mathlib.Core.Logic.{_⊎_}
 
 -- the binary digit at place k
@@ -24,11 +23,6 @@ pub record Least (n : ℕ) (To : ℕ → Type 0) (at r : ℕ) : Type 0 where
   pub from : r < n → at ≤ r
   pub found : r < n → To r
   pub none : (k : ℕ) → at ≤ k → k < r → To k → ⊥
-
--- a test tells whether a fact holds
-abbrev pub Tells : Bool → Type 0 → Type 0
-Tells true Fact = Fact
-Tells false Fact = Fact → ⊥
 
 -- the members are the numbers below n of which a fact holds
 pub record Gathers (Fact : ℕ → Type 0) (n m : ℕ) : Type 0 where

@@ -14,6 +14,11 @@ abbrev pub point : Description → ℕ
 point (cls a) = 32 * a
 point (mark e m) = 32 * e + m
 
+-- the descriptions that have a point
+abbrev pub Placed : Description → Type 0
+Placed (cls a) = a < 64
+Placed (mark e m) = (e < 64) × (1 ≤ m) × (m ≤ 31)
+
 -- j is the point of a class of the set
 pub record ToClasses (set j : ℕ) : Type 0 where
   pub class : ℕ

@@ -42,10 +42,10 @@ noticeLine n = line 33 (n .number) (n .first) (n .second)
 pub data ReportIs (text : List ℕ) : List ℕ → Type 0 where
   text-refused : (f : TextFault) → TextFaulty text f → ReportIs text (noticeLine (textNotice f))
   verdict-refused : (c p : ℕ) (rows : List Row) (f : CheckFault) → IsText text c p rows → CheckFaulty c p rows f
-    → ReportIs text (noticeLine (checkNotice f))
+      → ReportIs text (noticeLine (checkNotice f))
   listed : (c p : ℕ) (rows : List Row) (classes arrows : List ℕ) → IsText text c p rows → Passes c p rows
-    → Lists (λ k. (k < c) × EmptyClass rows k) classes → Lists (λ k. (k < p) × EmptyArrow rows k) arrows
-    → ReportIs text (line 86 (length classes) (length arrows) 0 ++ (nameLines 67 classes ++ nameLines 65 arrows))
+      → Lists (λ k. (k < c) × EmptyClass rows k) classes → Lists (λ k. (k < p) × EmptyArrow rows k) arrows
+      → ReportIs text (line 86 (length classes) (length arrows) 0 ++ (nameLines 67 classes ++ nameLines 65 arrows))
 
 -- the report stands in the first bytes, as many as the answer says; the later bytes stay
 pub record Written (text before : List ℕ) (len : ℕ) (after : List ℕ) : Type 0 where

@@ -57,7 +57,7 @@ pub data Unsound (c p : ℕ) (r : Row) : ℕ → Type 0 where
   a-unsound : (s : Shape) → shapeOf (r .letter) ≡ Some s → limit c p (s .a) ≤ r .a → Unsound c p r 2
   b-unsound : (s : Shape) → shapeOf (r .letter) ≡ Some s → r .a < limit c p (s .a) → limit c p (s .b) ≤ r .b → Unsound c p r 3
   n-unsound : (s : Shape) → shapeOf (r .letter) ≡ Some s → r .a < limit c p (s .a) → r .b < limit c p (s .b)
-    → (r .n < s .least) ⊎ (s .most < r .n) → Unsound c p r 4
+      → (r .n < s .least) ⊎ (s .most < r .n) → Unsound c p r 4
 
 infix 4 _∈_
 abbrev pub _∈_ : {A : Type 0} → A → List A → Type 0

@@ -16,7 +16,7 @@ use search::breadth_first::search;
 use search::web::Web;
 
 /// How many arrows there are at most.
-const ARROWS: usize = 32;
+pub(crate) const ARROWS: usize = 32;
 
 /// The arrows that each arrow lies in.
 #[derive(Drop)]
@@ -52,14 +52,14 @@ pub(crate) fn torn_arrows(rows: &[Row], arrows: &Arrows) -> u64
     for arrow in 0..ARROWS {
         let mut marks = [0u8; ARROWS];
         mark_all(arrows, arrow, &mut marks);
-        if torn(rows, Points::ArrowPoints, &marks) {
+        if torn(rows, Points::ArrowPoints, &marks, &marks) {
             found = with_member(found, arrow);
         }
     }
     found
 }
 
-// Marks what a start leads to, in a table that is long enough.
+/// Marks what a start leads to, in a table that is long enough.
 pub(crate) fn mark_all<W: Web>(web: &W, start: usize, marks: &mut [u8])
     requires { ⌜ W·Web .size (now web) ≤ length (now marks) ⌝ }
     ensures { λ _. ⌜ Marked (W·Web .size (now (web .entry))) (W·Web .link (now (web .entry))) start (now (marks .exit)) ⌝ }

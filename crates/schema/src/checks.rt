@@ -7,9 +7,11 @@ ghost use Rattle.std.specs.Results.{Cases};
 ghost use Rattle.schema.specs.Masks.{Member};
 ghost use Rattle.schema.specs.Rows.{AllSound};
 ghost use Rattle.schema.specs.Sheets.{Shown};
-ghost use Rattle.schema.specs.Verdicts.{Small, Passes, CheckFaulty};
+ghost use Rattle.schema.specs.Verdicts.{Small, Passes, SheetFaulty, CheckFaulty};
 ghost use Rattle.schema.specs.Checks.{Copied, Shared};
 use crate::faults::CheckFault;
+use crate::faults::CheckFromSheet;
+use crate::faults::SheetFault;
 use crate::letters::unsound_field;
 use crate::limits::MOST_ARROWS;
 use crate::limits::MOST_CLASSES;
@@ -20,13 +22,13 @@ use crate::set64::with_member;
 use crate::sheet::Sheet;
 
 /// Copies the rows of a sheet that is within the limits, and tells their number.
-pub(crate) fn copy_rows<S: Sheet>(sheet: &S, rows: &mut [Row]) -> Result<usize, CheckFault>
+pub(crate) fn copy_rows<S: Sheet>(sheet: &S, rows: &mut [Row]) -> Result<usize, SheetFault>
     requires { ⌜ 512 ≤ length (now rows) ⌝ }
     ensures { λ r. ⌜ Copied (S·Sheet .shows (now (sheet .entry))) r (now (rows .exit)) ⌝ }
 {
     let len = sheet.len();
     if sheet.classes() > MOST_CLASSES || sheet.arrows() > MOST_ARROWS || len > MOST_ROWS {
-        return Err(CheckFault::OverLimits);
+        return Err(SheetFault::OverLimits);
     }
     for k in 0..len {
         if let Some(row) = sheet.row(k) {
@@ -46,13 +48,17 @@ pub(crate) fn check_rows(rows: &[Row], classes: u16, arrows: u16) -> Result<(), 
     check_caps(rows, classes, arrows)
 }
 
-fn check_sound(rows: &[Row], classes: u16, arrows: u16) -> Result<(), CheckFault>
+/// Checks that each of some rows, which are within the limits, is sound.
+pub(crate) fn check_sound(rows: &[Row], classes: u16, arrows: u16) -> Result<(), SheetFault>
     requires { ⌜ Small classes arrows (now rows) ⌝ }
-    ensures { λ r. ⌜ Cases r (λ _. AllSound classes arrows (now (rows .entry))) (λ f. CheckFaulty classes arrows (now (rows .entry)) f) ⌝ }
+    ensures { λ r. ⌜ Cases r (λ _. AllSound classes arrows (now (rows .entry))) (λ f. SheetFaulty classes arrows (now (rows .entry)) f) ⌝ }
 {
     for (k, row) in rows.iter().enumerate() {
         if let Some(field) = unsound_field(*row, classes, arrows) {
-            return Err(CheckFault::UnsoundRow { row: k as u16, field });
+            return Err(SheetFault::UnsoundRow {
+                row: k as u16,
+                field,
+            });
         }
     }
     Ok(())
@@ -72,9 +78,9 @@ fn check_caps(rows: &[Row], classes: u16, arrows: u16) -> Result<(), CheckFault>
     Ok(())
 }
 
-// The set of the arrows that another arrow leads to. The last link of a way from elsewhere is a row of its own, so
-// the rows that lead straight to an arrow tell.
-fn shared_arrows(rows: &[Row]) -> u64
+/// The set of the arrows that another arrow leads to. The last link of a way from elsewhere is a row of its own, so
+/// the rows that lead straight to an arrow tell.
+pub(crate) fn shared_arrows(rows: &[Row]) -> u64
     requires { ⌜ AllSound 64 32 (now rows) ⌝ }
     ensures { λ r. ⌜ Shared (now (rows .entry)) r ⌝ }
 {

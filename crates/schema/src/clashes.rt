@@ -1,9 +1,9 @@
-//! Whether two points that a row sets apart are both marked.
+//! Whether two points that a row sets apart are marked, one in each of two tables.
 ghost use mathlib.Core.Path.{_≡_};
 ghost use Prim.Native.Nat.{_<_, _≤_};
 ghost use lib.ListN.{length};
 ghost use Rattle.std.specs.Options.{Cases};
-ghost use Rattle.schema.specs.Masks.{Tells};
+ghost use Rattle.schema.specs.Verdicts.{Tells};
 ghost use Rattle.schema.specs.Rows.{Sound, AllSound};
 ghost use Rattle.schema.specs.Keys.{apartPoints, pointsOf, BothMarked, TornBy};
 use crate::row::Row;
@@ -15,27 +15,29 @@ pub(crate) enum Points {
     DescriptionPoints,
 }
 
-/// Whether a row sets two marked points apart.
-pub(crate) fn torn(rows: &[Row], points: Points, marks: &[u8]) -> bool
+/// Whether a row sets two points apart, one marked in each table.
+pub(crate) fn torn(rows: &[Row], points: Points, first: &[u8], second: &[u8]) -> bool
     requires sound { ⌜ AllSound 64 32 (now rows) ⌝ }
-    requires long { ⌜ pointsOf points ≤ length (now marks) ⌝ }
-    ensures { λ r. ⌜ Tells r (TornBy points (now (rows .entry)) (now (marks .entry))) ⌝ }
+    requires long { ⌜ (pointsOf points ≤ length (now first)) × (pointsOf points ≤ length (now second)) ⌝ }
+    ensures { λ r. ⌜ Tells r (TornBy points (now (rows .entry)) (now (first .entry)) (now (second .entry))) ⌝ }
 {
     for row in rows {
-        if both_marked(*row, points, marks) {
+        if both_marked(*row, points, first, second) {
             return true;
         }
     }
     false
 }
 
-fn both_marked(row: Row, points: Points, marks: &[u8]) -> bool
+// A row says in one order what clashes either way round.
+fn both_marked(row: Row, points: Points, first: &[u8], second: &[u8]) -> bool
     requires sound { ⌜ Sound 64 32 row ⌝ }
-    requires long { ⌜ pointsOf points ≤ length (now marks) ⌝ }
-    ensures { λ r. ⌜ Tells r (BothMarked points row (now (marks .entry))) ⌝ }
+    requires long { ⌜ (pointsOf points ≤ length (now first)) × (pointsOf points ≤ length (now second)) ⌝ }
+    ensures { λ r. ⌜ Tells r (BothMarked points row (now (first .entry)) (now (second .entry))) ⌝ }
 {
     match apart(row, points) {
-        Some((one, two)) => marks[one] == 1 && marks[two] == 1,
+        Some((one, two)) => first[one] == 1 && second[two] == 1
+            || first[two] == 1 && second[one] == 1,
         None => false,
     }
 }

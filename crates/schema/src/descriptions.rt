@@ -54,7 +54,11 @@ impl Descriptions {
         requires low { ⌜ at < 2048 ⌝ }
         ensures { λ r. ⌜ Least 2048 (Ways (now (self .entry)) place times) at r ⌝ }
     {
-        if times == 0 { self.from_class(place, at) } else { self.from_mark(place, times, at) }
+        if times == 0 {
+            self.from_class(place, at)
+        } else {
+            self.from_mark(place, times, at)
+        }
     }
 
     fn from_class(&self, class: usize, at: usize) -> usize
@@ -74,7 +78,11 @@ impl Descriptions {
         ensures { λ r. ⌜ Least 2048 (Ways (now (self .entry)) end times) at r ⌝ }
     {
         let along = next_arrow(self.overs[end / 2], 32 * (end % 2) + times, at);
-        let other = if times == 1 { next_class(self.domains[end], at) } else { not_below(32 * end + times - 1, at) };
+        let other = if times == 1 {
+            next_class(self.domains[end], at)
+        } else {
+            not_below(32 * end + times - 1, at)
+        };
         along.min(other)
     }
 
@@ -120,9 +128,17 @@ fn next_arrow(arrows: u64, offset: usize, at: usize) -> usize
     requires within { ⌜ offset < 64 ⌝ }
     ensures { λ r. ⌜ Least 2048 (ToArrows arrows offset) at r ⌝ }
 {
-    let first = if at <= offset { 0 } else { (at - offset + 63) / 64 };
+    let first = if at <= offset {
+        0
+    } else {
+        (at - offset + 63) / 64
+    };
     let arrow = next_member(arrows, first);
-    if arrow < 32 { 64 * arrow + offset } else { POINTS }
+    if arrow < 32 {
+        64 * arrow + offset
+    } else {
+        POINTS
+    }
 }
 
 // The point itself, unless it lies below `at`.

@@ -1,9 +1,14 @@
 //! Why a call was refused: one case for each refusal, its number, and the places it names.
 ghost use mathlib.Core.Path.{_≡_};
-ghost use Rattle.schema.specs.Refusals.{setUpNotice, enterNotice, lineNotice, textNotice, checkNotice, verdictNotice, reportNotice};
+ghost use Rattle.schema.specs.Refusals.{setUpNotice, enterNotice, lineNotice, textNotice, loadNotice, sheetNotice, checkNotice, verdictNotice, questionNotice, reportNotice, printNotice, reprintNotice};
 ghost use Rattle.schema.specs.declared.faults.LineFault.the-variants.{Form};
 ghost use Rattle.schema.specs.declared.faults.TextFault.the-variants.{Line};
+ghost use Rattle.schema.specs.declared.faults.LoadFault.the-variants.{Text};
+ghost use Rattle.schema.specs.declared.faults.CheckFault.the-variants.{Sheet};
 ghost use Rattle.schema.specs.declared.faults.VerdictFault.the-variants.{Check};
+ghost use Rattle.schema.specs.declared.faults.PrintFault.the-variants.{Sheet as Unprinted};
+ghost use Rattle.schema.specs.declared.faults.ReprintFault.the-variants.{Text as Unread};
+ghost use Rattle.schema.specs.declared.faults.QuestionFault.the-variants.{Check as QuestionCheck};
 
 /// A refusal's number and the two places that it names, 0 where it has none.
 #[derive(Clone, Copy, PartialEq, Eq, Debug)]
@@ -48,11 +53,25 @@ pub enum TextFault {
     WrongLength,
 }
 
+/// Why a text was not loaded into a sheet.
+#[derive(Clone, Copy, PartialEq, Eq, Debug)]
+pub enum LoadFault {
+    Text(TextFault),
+    MoreNames,
+    NoRoom,
+}
+
+/// Why a sheet has no text: it is too large, or a row is unsound.
+#[derive(Clone, Copy, PartialEq, Eq, Debug)]
+pub enum SheetFault {
+    OverLimits,
+    UnsoundRow { row: u16, field: u16 },
+}
+
 /// Why the rows of a sheet cannot be judged.
 #[derive(Clone, Copy, PartialEq, Eq, Debug)]
 pub enum CheckFault {
-    OverLimits,
-    UnsoundRow { row: u16, field: u16 },
+    Sheet(SheetFault),
     Capped { row: u16 },
 }
 
@@ -63,9 +82,31 @@ pub enum VerdictFault {
     ShortTable,
 }
 
+/// Why a question was refused.
+#[derive(Clone, Copy, PartialEq, Eq, Debug)]
+pub enum QuestionFault {
+    Check(CheckFault),
+    UnsoundAsked { field: u16 },
+    Uncounted,
+}
+
 /// Why a report was not written.
 #[derive(Clone, Copy, PartialEq, Eq, Debug)]
 pub enum ReportFault {
+    ShortBuffer,
+}
+
+/// Why a sheet was not printed.
+#[derive(Clone, Copy, PartialEq, Eq, Debug)]
+pub enum PrintFault {
+    Sheet(SheetFault),
+    ShortBuffer,
+}
+
+/// Why a text was not read and printed again.
+#[derive(Clone, Copy, PartialEq, Eq, Debug)]
+pub enum ReprintFault {
+    Text(TextFault),
     ShortBuffer,
 }
 
@@ -85,11 +126,67 @@ pub impl From<LineFault> for TextFault as TextFromLine {
     }
 }
 
+pub impl From<TextFault> for LoadFault as LoadFromText {
+    ghost converts = { λ x r. r ≡ Text x };
+
+    fn from(fault: TextFault) -> LoadFault {
+        LoadFault::Text(fault)
+    }
+}
+
+pub impl From<SheetFault> for CheckFault as CheckFromSheet {
+    ghost converts = { λ x r. r ≡ Sheet x };
+
+    fn from(fault: SheetFault) -> CheckFault {
+        CheckFault::Sheet(fault)
+    }
+}
+
+pub impl From<SheetFault> for VerdictFault as VerdictFromSheet {
+    ghost converts = { λ x r. r ≡ Check (Sheet x) };
+
+    fn from(fault: SheetFault) -> VerdictFault {
+        VerdictFault::Check(CheckFault::Sheet(fault))
+    }
+}
+
 pub impl From<CheckFault> for VerdictFault as VerdictFromCheck {
     ghost converts = { λ x r. r ≡ Check x };
 
     fn from(fault: CheckFault) -> VerdictFault {
         VerdictFault::Check(fault)
+    }
+}
+
+pub impl From<SheetFault> for PrintFault as PrintFromSheet {
+    ghost converts = { λ x r. r ≡ Unprinted x };
+
+    fn from(fault: SheetFault) -> PrintFault {
+        PrintFault::Sheet(fault)
+    }
+}
+
+pub impl From<TextFault> for ReprintFault as ReprintFromText {
+    ghost converts = { λ x r. r ≡ Unread x };
+
+    fn from(fault: TextFault) -> ReprintFault {
+        ReprintFault::Text(fault)
+    }
+}
+
+pub impl From<SheetFault> for QuestionFault as QuestionFromSheet {
+    ghost converts = { λ x r. r ≡ QuestionCheck (Sheet x) };
+
+    fn from(fault: SheetFault) -> QuestionFault {
+        QuestionFault::Check(CheckFault::Sheet(fault))
+    }
+}
+
+pub impl From<CheckFault> for QuestionFault as QuestionFromCheck {
+    ghost converts = { λ x r. r ≡ QuestionCheck x };
+
+    fn from(fault: CheckFault) -> QuestionFault {
+        QuestionFault::Check(fault)
     }
 }
 
@@ -145,17 +242,39 @@ impl TextFault {
     }
 }
 
+impl LoadFault {
+    pub fn notice(&self) -> Notice
+        ensures { λ r. ⌜ r ≡ loadNotice (now (self .entry)) ⌝ }
+    {
+        match *self {
+            LoadFault::Text(fault) => fault.notice(),
+            LoadFault::MoreNames => bare(13),
+            LoadFault::NoRoom => bare(14),
+        }
+    }
+}
+
+impl SheetFault {
+    pub fn notice(&self) -> Notice
+        ensures { λ r. ⌜ r ≡ sheetNotice (now (self .entry)) ⌝ }
+    {
+        match *self {
+            SheetFault::OverLimits => bare(15),
+            SheetFault::UnsoundRow { row, field } => Notice {
+                number: 16,
+                first: row,
+                second: field,
+            },
+        }
+    }
+}
+
 impl CheckFault {
     pub fn notice(&self) -> Notice
         ensures { λ r. ⌜ r ≡ checkNotice (now (self .entry)) ⌝ }
     {
         match *self {
-            CheckFault::OverLimits => bare(15),
-            CheckFault::UnsoundRow { row, field } => Notice {
-                number: 16,
-                first: row,
-                second: field,
-            },
+            CheckFault::Sheet(fault) => fault.notice(),
             CheckFault::Capped { row } => Notice {
                 number: 17,
                 first: row,
@@ -176,12 +295,50 @@ impl VerdictFault {
     }
 }
 
+impl QuestionFault {
+    pub fn notice(&self) -> Notice
+        ensures { λ r. ⌜ r ≡ questionNotice (now (self .entry)) ⌝ }
+    {
+        match *self {
+            QuestionFault::Check(fault) => fault.notice(),
+            QuestionFault::UnsoundAsked { field } => Notice {
+                number: 19,
+                first: field,
+                second: 0,
+            },
+            QuestionFault::Uncounted => bare(20),
+        }
+    }
+}
+
 impl ReportFault {
     pub fn notice(&self) -> Notice
         ensures { λ r. ⌜ r ≡ reportNotice (now (self .entry)) ⌝ }
     {
         match *self {
             ReportFault::ShortBuffer => bare(21),
+        }
+    }
+}
+
+impl PrintFault {
+    pub fn notice(&self) -> Notice
+        ensures { λ r. ⌜ r ≡ printNotice (now (self .entry)) ⌝ }
+    {
+        match *self {
+            PrintFault::Sheet(fault) => fault.notice(),
+            PrintFault::ShortBuffer => bare(21),
+        }
+    }
+}
+
+impl ReprintFault {
+    pub fn notice(&self) -> Notice
+        ensures { λ r. ⌜ r ≡ reprintNotice (now (self .entry)) ⌝ }
+    {
+        match *self {
+            ReprintFault::Text(fault) => fault.notice(),
+            ReprintFault::ShortBuffer => bare(21),
         }
     }
 }

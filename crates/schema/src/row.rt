@@ -8,3 +8,11 @@ pub struct Row {
     pub b: u16,
     pub n: u16,
 }
+
+/// What stands in the places of a buffer that no row was put into.
+pub(crate) const BLANK: Row = Row {
+    letter: 0,
+    a: 0,
+    b: 0,
+    n: 0,
+};

@@ -2,7 +2,8 @@
 ghost use mathlib.Core.Path.{_≡_};
 ghost use mathlib.Core.Logic.{_⊎_};
 ghost use Prim.Native.Nat.{ℕ, _<_};
-ghost use Rattle.schema.specs.Masks.{Member, Least, Joins, Tells};
+ghost use Rattle.schema.specs.Masks.{Member, Least, Joins};
+ghost use Rattle.schema.specs.Verdicts.{Tells};
 
 /// The word with one more member.
 pub(crate) fn with_member(set: u64, k: usize) -> u64

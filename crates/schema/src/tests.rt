@@ -1,10 +1,14 @@
 //! Texts at their limits, and rows at theirs.
 use crate::faults::ColumnFault;
 use crate::faults::LineFault;
+use crate::faults::ReportFaultDebug;
+use crate::faults::ReportFaultPartialEq;
 use crate::faults::TextFault;
 use crate::faults::TextFaultDebug;
 use crate::faults::TextFaultPartialEq;
 use crate::letters::unsound_field;
+use crate::report::REPORT_BYTES;
+use crate::report::report;
 use crate::row::Row;
 use crate::row::RowDebug;
 use crate::row::RowPartialEq;
@@ -140,4 +144,14 @@ fn fields() -> Result<(), Fail> {
         ),
         Some(3),
     )
+}
+
+#[test]
+fn report_of_an_example() -> Result<(), Fail> {
+    let text: &[u8] = b"H   3   1   3\nD   1   1   0\nX   1   1   0\nF   2   0   1\n";
+    let expected: &[u8] = b"V   2   1   0\nC   1   0   0\nC   2   0   0\nA   0   0   0\n";
+    let mut bytes = [7u8; REPORT_BYTES];
+    check_eq(report(text, &mut bytes), Ok(56))?;
+    check(&bytes[0..56] == expected)?;
+    check_eq(bytes[56], 7)
 }

@@ -4,19 +4,15 @@ ghost use Prim.Native.Nat.{ℕ, _+_, _-_, _*_, _<_, _≤_};
 ghost use lib.Dec.{eqb};
 ghost use lib.ListN.{length, getD, take, drop};
 ghost use Rattle.std.specs.shelf.Lists.{countBy};
-ghost use Rattle.schema.specs.Keys.{keyed};
-ghost use Rattle.schema.specs.Rows.{AllSound};
-ghost use Rattle.schema.specs.Verdicts.{Bit, Passes, Judged, Verdict};
-ghost use Rattle.schema.specs.Webs.{Empty, desc};
-use crate::arrows::mark_all;
+ghost use Rattle.schema.specs.Verdicts.{Passes, Judged, Verdict};
 use crate::checks::check_rows;
 use crate::checks::copy_rows;
 use crate::faults::VerdictFault;
 use crate::faults::VerdictFromCheck;
-use crate::keys::KEYS;
-use crate::keys::KeyWeb;
-use crate::keys::Keys;
+use crate::faults::VerdictFromSheet;
+use crate::keys::empty_keys;
 use crate::limits::MOST_ROWS;
+use crate::row::BLANK;
 use crate::row::Row;
 use crate::sheet::Sheet;
 
@@ -25,8 +21,7 @@ use crate::sheet::Sheet;
 pub fn verdict<S: Sheet>(sheet: &S, table: &mut [u8]) -> Result<usize, VerdictFault>
     ensures { λ r. ⌜ Verdict (S·Sheet .shows (now (sheet .entry))) (now (table .entry)) r (now (table .exit)) ⌝ }
 {
-    let blank = Row { letter: 0, a: 0, b: 0, n: 0 };
-    let mut buffer = [blank; MOST_ROWS];
+    let mut buffer = [BLANK; MOST_ROWS];
     let len = copy_rows(sheet, &mut buffer)?;
     let rows = &buffer[0..len];
     let classes = sheet.classes();
@@ -36,7 +31,12 @@ pub fn verdict<S: Sheet>(sheet: &S, table: &mut [u8]) -> Result<usize, VerdictFa
 }
 
 // The verdict on rows that pass the checks.
-fn judge(rows: &[Row], classes: usize, arrows: usize, table: &mut [u8]) -> Result<usize, VerdictFault>
+fn judge(
+    rows: &[Row],
+    classes: usize,
+    arrows: usize,
+    table: &mut [u8],
+) -> Result<usize, VerdictFault>
     requires { ⌜ Passes classes arrows (now rows) ⌝ }
     ensures { λ r. ⌜ Judged classes arrows (now (rows .entry)) (now (table .entry)) r (now (table .exit)) ⌝ }
 {
@@ -46,17 +46,6 @@ fn judge(rows: &[Row], classes: usize, arrows: usize, table: &mut [u8]) -> Resul
     let empty = empty_keys(rows);
     write_names(table, classes, arrows, &empty);
     Ok(count_ones(&table[0..classes + arrows]))
-}
-
-// A byte for each key: 1 if its description is empty, and else 0.
-fn empty_keys(rows: &[Row]) -> [u8; 129]
-    requires { ⌜ AllSound 64 32 (now rows) ⌝ }
-    ensures { λ r. ⌜ ((k : ℕ) → k < 128 → Bit (getD r k 0) (Empty (now (rows .entry)) (desc (keyed k)))) ⌝ }
-{
-    let keys = Keys::survey(rows);
-    let mut marks = [0u8; KEYS + 1];
-    mark_all(&keys, KEYS, &mut marks);
-    marks
 }
 
 // Writes the byte of each class and then that of each arrow.
@@ -79,7 +68,11 @@ fn name_key(name: usize, classes: usize) -> usize
     ensures class { λ r. ⌜ (name < classes → r ≡ name) ⌝ }
     ensures arrow { λ r. ⌜ (classes ≤ name → r ≡ 64 + 2 * (name - classes)) ⌝ }
 {
-    if name < classes { name } else { 64 + 2 * (name - classes) }
+    if name < classes {
+        name
+    } else {
+        64 + 2 * (name - classes)
+    }
 }
 
 fn count_ones(bytes: &[u8]) -> usize

@@ -22,7 +22,11 @@ impl Book {
         ensures { λ r. ⌜ made r (λ b. bookShows b ≡ unset) ⌝ }
     {
         let rows = Vec::with_capacity(heap, BOOK_ROWS)?;
-        Ok(Book { classes: 0, arrows: 0, rows })
+        Ok(Book {
+            classes: 0,
+            arrows: 0,
+            rows,
+        })
     }
 
     /// Begins a new sheet with these counts and no rows.

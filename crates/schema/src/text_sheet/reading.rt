@@ -17,16 +17,9 @@ use crate::limits::MOST_ROWS;
 use crate::lines::Header;
 use crate::lines::header_line;
 use crate::lines::row_line;
+use crate::row::BLANK;
 use crate::row::Row;
 use crate::sheet::Sheet;
-
-// What stands in the places past the last row.
-const BLANK: Row = Row {
-    letter: 0,
-    a: 0,
-    b: 0,
-    n: 0,
-};
 
 impl TextSheet {
     /// Reads a text, or says the first thing that is wrong with it.

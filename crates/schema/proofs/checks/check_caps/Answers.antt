@@ -36,9 +36,10 @@ loop-k-again c =
     let s = c .shared-arrows-shared in
     let r = getD rows (c .loop-k .k) (record { letter = 0; a = 0; b = 0; n = 0 }) in
     below-more _ _ (c .loop-k .inv)
-    (elim (c .else-row-eq75 .came)
-    [ else-row-eq75·by·then-row-eq75·else-has-member v ↦ no-caps rows (s .result) (s .ensures) r (v .if-has-member .ensures tt)
-    | else-row-eq75·by·else-row-eq75 v ↦ no-cap-letter rows (s .result) (s .ensures) r (v .if-row-eq75 .left) ])
+    (elim (c .else-row-eq75 .came) [
+      | else-row-eq75·by·then-row-eq75·else-has-member v ↦ no-caps rows (s .result) (s .ensures) r (v .if-has-member .ensures tt)
+      | else-row-eq75·by·else-row-eq75 v ↦ no-cap-letter rows (s .result) (s .ensures) r (v .if-row-eq75 .left)
+    ])
 
 pub returns : need.returns
 returns c =

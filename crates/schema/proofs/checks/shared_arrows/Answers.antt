@@ -28,17 +28,18 @@ loop-row-again c =
     let r = getD rows i none in
     let e = take-more rows i none (c .loop-row-test .taken) in
     subst (λ (rs : List Row). Shared rs (c .if-row-eq80 .shared)) (sym e)
-    (elim (c .if-row-eq80 .came)
-    [ then-row-eq80·then-row v ↦
-        let f = fits-at r 80 (v .if-row-eq80 .taken) (c .pre r (∈-at rows i none (c .loop-row-test .taken))) in
-        subst (Shared (take i rows ++ r ∷ [])) (sym (v .shared-is))
-        (shared-more (take i rows) (c .loop-row .shared) (v .with-member-shared .result) r (v .if-row-eq80 .taken) (omega (arith, f .3)) (v .if-row .taken) (v .with-member-shared .ensures) (c .loop-row .inv))
-    | else-row-eq80 v ↦
-        subst (Shared (take i rows ++ r ∷ [])) (sym (v .shared-is))
-        (shared-other (take i rows) (c .loop-row .shared) r
-        (elim (v .else-row-eq80 .came)
-        [ else-row-eq80·by·then-row-eq80·else-row u ↦ (λ _. u .if-row .left) | else-row-eq80·by·else-row-eq80 u ↦ (λ x. absurd (u .if-row-eq80 .left x)) ])
-        (c .loop-row .inv)) ])
+    (elim (c .if-row-eq80 .came) [
+      | then-row-eq80·then-row v ↦
+          let f = fits-at r 80 (v .if-row-eq80 .taken) (c .pre r (∈-at rows i none (c .loop-row-test .taken))) in
+          subst (Shared (take i rows ++ r ∷ [])) (sym (v .shared-is))
+          (shared-more (take i rows) (c .loop-row .shared) (v .with-member-shared .result) r (v .if-row-eq80 .taken) (omega (arith, f .3)) (v .if-row .taken) (v .with-member-shared .ensures) (c .loop-row .inv))
+      | else-row-eq80 v ↦
+          subst (Shared (take i rows ++ r ∷ [])) (sym (v .shared-is))
+          (shared-other (take i rows) (c .loop-row .shared) r
+          (elim (v .else-row-eq80 .came)
+          [ else-row-eq80·by·then-row-eq80·else-row u ↦ (λ _. u .if-row .left) | else-row-eq80·by·else-row-eq80 u ↦ (λ x. absurd (u .if-row-eq80 .left x)) ])
+          (c .loop-row .inv))
+    ])
 
 pub returns : need.returns
 returns c =

@@ -21,5 +21,5 @@ loop-row-again c = below-more _ _ (c .loop-row .inv) (c .if-both-marked .ensures
 
 pub returns : need.returns
 returns c t =
-    every-∈ (λ (r : Row). BothMarked (c .args .points) r (c .args .marks .now) → ⊥) (c .args .rows .now) (record { letter = 0; a = 0; b = 0; n = 0 })
+    every-∈ (λ (r : Row). BothMarked (c .args .points) r (c .args .first .now) (c .args .second .now) → ⊥) (c .args .rows .now) (record { letter = 0; a = 0; b = 0; n = 0 })
     (λ k l. c .loop-row .inv k (omega arith)) (t .by) (t .stands) (t .both)

@@ -6,7 +6,7 @@ use lib.Dec.{eqb}
 use native.Mathlib.Omega.{arith}
 use native.Mathlib.Nat.{zero-add}
 use Rattle.std.proofs.shelf.Tests.{cases-eq, eq-eqb, ne-eqb}
-use Rattle.schema.specs.Masks.{bit, Member, Tells}
+use Rattle.schema.specs.Masks.{bit, Member}
 use Rattle.schema.proofs.Bits.{bit-shift}
 use Rattle.schema.proofs.set64.has_member.Needs as need
 

@@ -15,12 +15,12 @@ returns c =
     let k = c .args .k in
     let e : (1 * 2 ^ k) % 2 ^ 64 ≡ 2 ^ k = one-shl k 64 (c .pre) in
     let at : (j : ℕ) → bit j (bitOr m ((1 * 2 ^ k) % 2 ^ 64)) ≡ max (bit j m) (bit j (2 ^ k)) =
-        λ j. ap (λ (x : ℕ). bit j (bitOr m x)) e ∙ bit-or j m (2 ^ k) in
+    λ j. ap (λ (x : ℕ). bit j (bitOr m x)) e ∙ bit-or j m (2 ^ k) in
     record {
       new = omega (arith, at k, bit-power k, bit-small k m);
       kept = λ j h. omega (arith, at j, bit-small j (2 ^ k), h);
       only = λ j h. ⊎-elim
-        (λ (s : bit j m ≡ 1). inl s)
-        (λ (s : bit j m ≡ 1 → ⊥). inr (bit-power-only j k (omega (arith, at j, h, bit-small j m, bit-small j (2 ^ k), s))))
-        (cases-eq (bit j m) 1);
+          (λ (s : bit j m ≡ 1). inl s)
+          (λ (s : bit j m ≡ 1 → ⊥). inr (bit-power-only j k (omega (arith, at j, h, bit-small j m, bit-small j (2 ^ k), s))))
+          (cases-eq (bit j m) 1);
     }

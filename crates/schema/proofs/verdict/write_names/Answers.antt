@@ -20,9 +20,10 @@ loop-name-again c =
     let from = c .args .empty .now in
     let key = c .name-key .result in
     let v = getD from key 0 in
-    let h : i < length t = omega (arith, c .pre .room, c .loop-name .kept .table) in
-    (λ k l m. written t i v k (getD from k 0) h
-        (λ e. ap (λ (j : ℕ). getD from j 0) (c .name-key .ensures .class (omega arith) ∙ sym e)) (λ e. c .loop-name .inv .0 k (omega arith) m),
-     λ k l. written t i v (c .args .classes + k) (getD from (64 + 2 * k) 0) h
-        (λ e. let q : key ≡ 64 + 2 * k = omega (arith, c .name-key .ensures .arrow (omega arith)) in ap (λ (j : ℕ). getD from j 0) q) (λ e. c .loop-name .inv .1 k (omega arith)),
-     drop-set-lt (c .args .classes + c .args .arrows) t i v (omega arith) ∙ c .loop-name .inv .2)
+    let h : i < length t = omega (arith, c .pre .room, c .loop-name .kept .table) in (
+      λ k l m. written t i v k (getD from k 0) h
+          (λ e. ap (λ (j : ℕ). getD from j 0) (c .name-key .ensures .class (omega arith) ∙ sym e)) (λ e. c .loop-name .inv .0 k (omega arith) m),
+      λ k l. written t i v (c .args .classes + k) (getD from (64 + 2 * k) 0) h
+          (λ e. let q : key ≡ 64 + 2 * k = omega (arith, c .name-key .ensures .arrow (omega arith)) in ap (λ (j : ℕ). getD from j 0) q) (λ e. c .loop-name .inv .1 k (omega arith)),
+      drop-set-lt (c .args .classes + c .args .arrows) t i v (omega arith) ∙ c .loop-name .inv .2,
+    )

@@ -32,10 +32,11 @@ returns c =
     let s = c .args .self .now in
     let x = c .args .end in
     let m = c .args .times in
-    elim (c .if-times-eq1 .came)
-    [ then-times-eq1 w ↦
-        least-either (c .next-arrow-along .ensures) (w .next-class-other .ensures) (c .min .ensures ∙ ap (λ (i : ℕ). min (c .next-arrow-along .result) i) (w .other-is))
-        (λ k t. along (c .pre .mark .0) t) (λ k t. domain (w .if-times-eq1 .taken) t) (λ k. once s x m k (w .if-times-eq1 .taken))
-    | else-times-eq1 w ↦
-        least-either (c .next-arrow-along .ensures) (w .not-below-other .ensures) (c .min .ensures ∙ ap (λ (i : ℕ). min (c .next-arrow-along .result) i) (w .other-is))
-        (λ k t. along (c .pre .mark .0) t) (λ k t. below (omega arith) (omega arith)) (λ k. more s x m k (w .if-times-eq1 .left) (c .pre .mark .0)) ]
+    elim (c .if-times-eq1 .came) [
+      | then-times-eq1 w ↦
+          least-either (c .next-arrow-along .ensures) (w .next-class-other .ensures) (c .min .ensures ∙ ap (λ (i : ℕ). min (c .next-arrow-along .result) i) (w .other-is))
+          (λ k t. along (c .pre .mark .0) t) (λ k t. domain (w .if-times-eq1 .taken) t) (λ k. once s x m k (w .if-times-eq1 .taken))
+      | else-times-eq1 w ↦
+          least-either (c .next-arrow-along .ensures) (w .not-below-other .ensures) (c .min .ensures ∙ ap (λ (i : ℕ). min (c .next-arrow-along .result) i) (w .other-is))
+          (λ k t. along (c .pre .mark .0) t) (λ k t. below (omega arith) (omega arith)) (λ k. more s x m k (w .if-times-eq1 .left) (c .pre .mark .0))
+    ]

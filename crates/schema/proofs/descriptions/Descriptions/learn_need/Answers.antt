@@ -13,7 +13,7 @@ returns-then-self-place c rows t =
       domains = told-other 68 (w .domains) rows r (λ e. omega arith) (t .domains);
       overs = told-other 80 (w .overs) rows r (λ e. omega arith) (t .overs);
       needs = needed-higher (w .needs) (w .counts) rows r (c .with-member .result) (c .pre .need) (omega (arith, f .0)) (f .2) (omega (arith, f .1)) (c .with-member .ensures) (t .needs)
-        (omega (arith, f .0, f .1)) (omega arith);
+          (omega (arith, f .0, f .1)) (omega arith);
     }
 
 pub returns-else-self-place : need.returns-else-self-place
