@@ -19,6 +19,8 @@ use Rattle.schema.specs.Sheets.{Shown}
 use Rattle.schema.specs.Texts.{IsText}
 use Rattle.schema.specs.Verdicts.{Bit, Listed, Verdict}
 use Rattle.schema.specs.Webs.{EmptyClass, EmptyArrow}
+use Rattle.schema.specs.Worlds.{ClassEmpty, ArrowEmpty}
+use Rattle.schema.specs.Truth.{Follows}
 use Rattle.schema.proofs.Ones.{bits-list}
 use Rattle.schema.proofs.Printables.{check-printable}
 
@@ -41,18 +43,26 @@ part-list from n Fact table room bits =
     bits-list n Fact part (omega (arith, length-between table from (from + n) room))
     (λ k h. let e = getD-between table from (from + n) k 0 (omega arith) in subst (λ b. Bit b (Fact k)) (sym e) (bits k h))
 
+-- the same of a part that the table begins with
+front-list : (n : ℕ) (Fact : ℕ → Type 0) (table : List ℕ) → n ≤ length table → ((k : ℕ) → k < n → Bit (getD table k 0) (Fact k))
+    → Lists (λ k. (k < n) × Fact k) (onesFrom 0 (between 0 n table))
+front-list n Fact table room bits =
+    rw zero-add at (part-list 0 n Fact table (omega arith)
+    (λ k h. let z : k ≡ 0 + k = omega arith in subst (λ i. Bit (getD table i 0) (Fact k)) z (bits k h)))
+
 -- a verdict with its classes and arrows written
 pub judged-listed : (s : Shown) (table marked : List ℕ) (ones c p : ℕ) {before after : List ℕ} {len : ℕ} → s .classes + s .arrows ≤ length marked
     → Listed (s .classes) (s .arrows) (s .rows) table ones marked → c ≡ s .classes → p ≡ s .arrows
     → Begun (listing (onesFrom 0 (between 0 c marked)) (onesFrom 0 (between c (c + p) marked))) before len after → SheetReported s before len after
 judged-listed s table marked ones c p room v is-c is-p b =
-    let classes : Lists (λ k. (k < s .classes) × EmptyClass (s .rows) k) (onesFrom 0 (between 0 (s .classes) marked)) =
-    rw zero-add at (part-list 0 (s .classes) (EmptyClass (s .rows)) marked (omega arith)
-    (λ k h. let z : k ≡ 0 + k = omega arith in subst (λ i. Bit (getD marked i 0) (EmptyClass (s .rows) k)) z (v .class-bytes k h))) in
+    let few : s .classes ≤ length marked = omega arith in
+    let classes = front-list (s .classes) (EmptyClass (s .rows)) marked few (v .class-bytes) in
     let arrows = part-list (s .classes) (s .arrows) (EmptyArrow (s .rows)) marked room (v .arrow-bytes) in
-    record { report = _; is = sheet-listed _ _ (v .passes) classes arrows; begun = rw (is-c, is-p) at b }
+    let no-class = front-list (s .classes) (λ k. Follows (s .rows) (λ w. ClassEmpty w k)) marked few (v .class-everywhere) in
+    let no-arrow = part-list (s .classes) (s .arrows) (λ k. Follows (s .rows) (λ w. ArrowEmpty w k)) marked room (v .arrow-everywhere) in
+    record { report = _; is = sheet-listed _ _ (v .passes) classes arrows no-class no-arrow; begun = rw (is-c, is-p) at b }
 
 -- the report on the sheet of an accepted text is the report on the text
 pub text-report : {text report : List ℕ} (s : Shown) → IsText text (s .classes) (s .arrows) (s .rows) → SheetReport s report → ReportIs text report
 text-report s t (sheet-refused f h) = verdict-refused (s .classes) (s .arrows) (s .rows) f t h
-text-report s t (sheet-listed classes arrows h cs ps) = listed (s .classes) (s .arrows) (s .rows) classes arrows t h cs ps
+text-report s t (sheet-listed classes arrows h cs ps ct pt) = listed (s .classes) (s .arrows) (s .rows) classes arrows t h cs ps ct pt

@@ -12,6 +12,7 @@ use Rattle.std.specs.declared.result.Result.{Result}
 use Rattle.std.specs.declared.result.Result.the-variants.{Ok, Err}
 use Rattle.schema.specs.declared.book.Book.{Book}
 use Rattle.schema.specs.declared.faults.SetUpFault.{SetUpFault}
+use Rattle.schema.specs.declared.faults.SetUpFault.the-variants.{TooMany}
 use Rattle.schema.specs.Sheets.{Shown, Bounded}
 
 abbrev pub bookShows : Book → Shown
@@ -23,7 +24,7 @@ unset = record { classes = 0; arrows = 0; rows = []; capacity = 384 }
 -- a new sheet with no rows, or else nothing changes
 abbrev pub SetUp : Shown → ℕ → ℕ → Result Unit SetUpFault → Shown → Type 0
 SetUp s c p (Ok u) t = (c ≤ 64) × (p ≤ 32) × (t ≡ record { classes = c; arrows = p; rows = []; capacity = s .capacity })
-SetUp s c p (Err f) t = ((64 < c) ⊎ (32 < p)) × (t ≡ s)
+SetUp s c p (Err TooMany) t = ((64 < c) ⊎ (32 < p)) × (t ≡ s)
 
 -- a book keeps the laws of every sheet
 pub book-bounded : (b : Book) → Bounded (bookShows b)

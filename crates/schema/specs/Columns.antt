@@ -17,7 +17,7 @@ use Rattle.schema.specs.declared.row.Row.{Row}
 use Rattle.schema.specs.declared.faults.LineFault.{LineFault}
 use Rattle.schema.specs.declared.faults.LineFault.the-variants.{Form, UnsoundLine}
 use Rattle.schema.specs.Rows.{Sound, Unsound}
-use Rattle.schema.specs.Texts.{group, line, lineAt, rowLine, WellFormed, BadColumn, Heads, RowLetter}
+use Rattle.schema.specs.Texts.{group, line, lineAt, rowLine, WellFormed, BadColumn, Heads, RowLetter, Writable}
 
 -- the last digit of a number; before the last column of a group nothing is written of 0
 abbrev pub mark : Bool → ℕ → ℕ
@@ -51,7 +51,7 @@ headLine c p n = line 72 c p n
 -- out of form, or in form with an unsound field
 pub data LineFaulty (bytes : List ℕ) (number c p : ℕ) : LineFault → Type 0 where
   out-of-form : (k : ℕ) → BadColumn RowLetter bytes k → LineFaulty bytes number c p (Form (record { line = number; column = k }))
-  unsound : (field : ℕ) (r : Row) → WellFormed RowLetter (rowLine r) → bytes ≡ rowLine r → Unsound c p r field
+  unsound : (field : ℕ) (r : Row) → Writable r → bytes ≡ rowLine r → Unsound c p r field
       → LineFaulty bytes number c p (UnsoundLine number field)
 
 -- line 1 tells c classes, p arrows and n rows, each within its limit, and the text is as long as n says

@@ -19,6 +19,8 @@ use Rattle.schema.specs.Rows.{_∈_}
 use Rattle.schema.specs.Texts.{line, IsText, TextFaulty}
 use Rattle.schema.specs.Verdicts.{Passes, CheckFaulty}
 use Rattle.schema.specs.Webs.{EmptyClass, EmptyArrow}
+use Rattle.schema.specs.Worlds.{ClassEmpty, ArrowEmpty}
+use Rattle.schema.specs.Truth.{Follows}
 
 -- each number is above all before it
 abbrev pub Rising : List ℕ → Type 0
@@ -39,12 +41,15 @@ nameLines letter (k ∷ ks) = line letter k 0 0 ++ nameLines letter ks
 abbrev pub noticeLine : Notice → List ℕ
 noticeLine n = line 33 (n .number) (n .first) (n .second)
 
+-- one line for a refusal; else the names that are forced empty, which are those that are empty in every world that
+-- fulfils the rows
 pub data ReportIs (text : List ℕ) : List ℕ → Type 0 where
   text-refused : (f : TextFault) → TextFaulty text f → ReportIs text (noticeLine (textNotice f))
   verdict-refused : (c p : ℕ) (rows : List Row) (f : CheckFault) → IsText text c p rows → CheckFaulty c p rows f
       → ReportIs text (noticeLine (checkNotice f))
   listed : (c p : ℕ) (rows : List Row) (classes arrows : List ℕ) → IsText text c p rows → Passes c p rows
       → Lists (λ k. (k < c) × EmptyClass rows k) classes → Lists (λ k. (k < p) × EmptyArrow rows k) arrows
+      → Lists (λ k. (k < c) × Follows rows (λ w. ClassEmpty w k)) classes → Lists (λ k. (k < p) × Follows rows (λ w. ArrowEmpty w k)) arrows
       → ReportIs text (line 86 (length classes) (length arrows) 0 ++ (nameLines 67 classes ++ nameLines 65 arrows))
 
 -- the report stands in the first bytes, as many as the answer says; the later bytes stay

@@ -57,6 +57,13 @@ Header x = x ≡ 72
 abbrev pub RowLetter : ℕ → Type 0
 RowLetter x = isSome (shapeOf x) ≡ true
 
+-- a row that a line can write
+pub record Writable (r : Row) : Type 0 where
+  pub letter-stands : RowLetter (r .letter)
+  pub a-fits : r .a ≤ 9999
+  pub b-fits : r .b ≤ 9999
+  pub n-fits : r .n ≤ 9999
+
 abbrev pub rowLine : Row → List ℕ
 rowLine r = line (r .letter) (r .a) (r .b) (r .n)
 
@@ -107,5 +114,5 @@ pub data TextFaulty (text : List ℕ) : TextFault → Type 0 where
   row-form : (c p n i k : ℕ) → Until text c p n i → BadColumn RowLetter (lineAt text (i + 1)) k
       → TextFaulty text (Line (Form (record { line = i + 2; column = k })))
   row-unsound : (c p n i field : ℕ) (r : Row) → Until text c p n i
-      → WellFormed RowLetter (rowLine r) → lineAt text (i + 1) ≡ rowLine r → Unsound c p r field
+      → Writable r → lineAt text (i + 1) ≡ rowLine r → Unsound c p r field
       → TextFaulty text (Line (UnsoundLine (i + 2) field))

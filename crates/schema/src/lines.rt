@@ -29,14 +29,14 @@ const FEED: u16 = 14;
 
 /// What line 1 tells.
 #[derive(Clone, Copy, PartialEq, Eq, Debug)]
-pub struct Header {
+pub(crate) struct Header {
     pub classes: u16,
     pub arrows: u16,
     pub rows: u16,
 }
 
 /// The first line of a text.
-pub fn header_line(bytes: &[u8]) -> Result<Header, LineFault>
+pub(crate) fn header_line(bytes: &[u8]) -> Result<Header, LineFault>
     requires { ⌜ length (now bytes) ≡ 14 ⌝ }
     ensures { λ r. ⌜ Cases r (λ h. (h .classes ≤ 9999) × (h .arrows ≤ 9999) × (h .rows ≤ 9999) × (now (bytes .entry) ≡ headLine (h .classes) (h .arrows) (h .rows))) (λ e. (k : ℕ) × (e ≡ Form (record { line = 1; column = k })) × BadColumn HeaderLetter (now (bytes .entry)) k) ⌝ }
 {
@@ -53,7 +53,7 @@ pub fn header_line(bytes: &[u8]) -> Result<Header, LineFault>
 }
 
 /// The line of a row, which is in form and sound for these counts.
-pub fn row_line(bytes: &[u8], line: u16, classes: u16, arrows: u16) -> Result<Row, LineFault>
+pub(crate) fn row_line(bytes: &[u8], line: u16, classes: u16, arrows: u16) -> Result<Row, LineFault>
     requires { ⌜ length (now bytes) ≡ 14 ⌝ }
     ensures { λ r. ⌜ Cases r (λ row. (now (bytes .entry) ≡ rowLine row) × Sound classes arrows row) (λ e. LineFaulty (now (bytes .entry)) line classes arrows e) ⌝ }
 {

@@ -9,7 +9,7 @@ const CAPACITY: usize = 2048;
 
 // The first `filled` of the points are in the queue.
 #[derive(Drop)]
-pub struct Queue {
+pub(crate) struct Queue {
     points: [u16; CAPACITY],
     filled: usize,
     ghost within: { filled ≤ 2048 },
@@ -17,7 +17,7 @@ pub struct Queue {
 
 impl Queue {
     // A queue with no point in it.
-    pub fn new() -> Queue
+    pub(crate) fn new() -> Queue
         ensures { λ r. ⌜ take (r .filled) (r .points) ≡ [] ⌝ }
     {
         Queue {
@@ -27,14 +27,14 @@ impl Queue {
     }
 
     // How many points are in the queue.
-    pub fn len(&self) -> usize
+    pub(crate) fn len(&self) -> usize
         ensures { λ r. ⌜ r ≡ length (take (now (self .entry) .filled) (now (self .entry) .points)) ⌝ }
     {
         self.filled
     }
 
     // The point at a place in the queue.
-    pub fn at(&self, place: usize) -> u16
+    pub(crate) fn at(&self, place: usize) -> u16
         requires { ⌜ place < length (take (now self .filled) (now self .points)) ⌝ }
         ensures { λ r. ⌜ r ≡ getD (take (now (self .entry) .filled) (now (self .entry) .points)) place 0 ⌝ }
     {
@@ -42,7 +42,7 @@ impl Queue {
     }
 
     // Puts a point at the end of the queue.
-    pub fn push(&mut self, point: u16)
+    pub(crate) fn push(&mut self, point: u16)
         requires { ⌜ length (take (now self .filled) (now self .points)) < 2048 ⌝ }
         ensures { λ _. ⌜ take (now (self .exit) .filled) (now (self .exit) .points) ≡ take (now (self .entry) .filled) (now (self .entry) .points) ++ (point ∷ []) ⌝ }
     {

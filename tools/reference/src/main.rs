@@ -1,7 +1,7 @@
 //! Reads a schema text from standard input and writes the report on it.
 //!
-//! This program shares no code and no method with the proved one; the two are
-//! run on the same texts and must write the same bytes.
+//! This program shares no code with the proved one and finds what is empty in
+//! another way; the two are run on the same texts and must write the same bytes.
 //!
 //! The way taken here never builds the points "end e at least m times". What
 //! matters of them is how often each end must be had, so a thing is described

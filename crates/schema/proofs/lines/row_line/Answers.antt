@@ -27,7 +27,7 @@ pub returns-in-Some : need.returns-in-Some
 returns-in-Some c =
     let q = c .in-Continue-a .ensures tt in
     let some : 5 ≤ length (c .args .bytes .now) = omega arith in
-    unsound (c .in-Some .field) _ (record { letter = _; a = _; b = _; n = _; begins = c .in-Continue-row-letter .ensures tt; a-fits = q .0; b-fits = q .1; n-fits = q .2; spelled = refl }) (line-spelled _ _ _ _ (line-parts (c .args .bytes .now) some) (q .3)) (c .in-Some .ensures tt)
+    unsound (c .in-Some .field) _ (record { letter-stands = c .in-Continue-row-letter .ensures tt; a-fits = q .0; b-fits = q .1; n-fits = q .2 }) (line-spelled _ _ _ _ (line-parts (c .args .bytes .now) some) (q .3)) (c .in-Some .ensures tt)
 
 pub returns-in-None : need.returns-in-None
 returns-in-None c =
