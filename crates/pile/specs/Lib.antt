@@ -1,0 +1,4 @@
+pub mod Refusals
+pub mod Standing
+pub mod Strikes
+pub mod Trials

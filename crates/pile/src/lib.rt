@@ -1,0 +1,7 @@
+//! Layers over any sheet: trials, which add rows, and strikes, which hide some.
+pub mod faults;
+pub mod limits;
+pub mod strike;
+#[cfg(test)]
+mod tests;
+pub mod trial;
