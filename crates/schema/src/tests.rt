@@ -147,6 +147,18 @@ fn fields() -> Result<(), Fail> {
 }
 
 #[test]
+fn longest_text(rt: LibcRuntime) -> Result<(), Fail> {
+    let mut text = Vec::new(rt.alloc());
+    text.extend_from_slice(b"H  64  32 512\n")?;
+    for _ in 0..512 {
+        text.extend_from_slice(b"S   0  63   0\n")?;
+    }
+    check_eq(check_text(text.as_slice()), Ok(()))?;
+    text.extend_from_slice(b"S   0  63   0\n")?;
+    check_eq(check_text(text.as_slice()), Err(TextFault::WrongLength))
+}
+
+#[test]
 fn report_of_an_example() -> Result<(), Fail> {
     let text: &[u8] = b"H   3   1   3\nD   1   1   0\nX   1   1   0\nF   2   0   1\n";
     let expected: &[u8] = b"V   2   1   0\nC   1   0   0\nC   2   0   0\nA   0   0   0\n";
