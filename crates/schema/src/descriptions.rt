@@ -6,7 +6,7 @@
 ghost use Rattle.std.specs.Prelude.{◌≡◌, ℕ, ◌+◌, ◌*◌, ◌/◌, ◌%◌, ◌<◌, ◌≤◌, length, slice_index};
 ghost use Rattle.schema.specs.Masks.{Least};
 ghost use Rattle.schema.specs.Points.{ToClasses, ToNeeds, ToArrows, Ways, Onward};
-ghost use borrow.Author.Rules;
+ghost use Rattle.std.proofs.Common.{rules};
 
 use crate::set64::next_member;
 use search::web::Web;
@@ -34,7 +34,7 @@ impl Web for Descriptions {
 
     ghost link = { Onward };
 
-    ghost small = { Prim.search Needs.needs };
+    ghost small = { Prim.search rules };
 
     fn points(&self) -> usize {
         POINTS

@@ -10,7 +10,7 @@ ghost use Rattle.schema.specs.Points.{point, Built};
 ghost use Rattle.schema.specs.Rows.{AllSound};
 ghost use Rattle.schema.specs.Keys.{Forward, ForwardEnd, Backward, keyed, EmptyKeys, ArrowTorn, RivalSets, TornSets, Surveyed};
 ghost use Rattle.schema.specs.Verdicts.{Bit, NoSharedCap, Tells};
-ghost use borrow.Author.Rules;
+ghost use Rattle.std.proofs.Common.{rules};
 
 use crate::arrows::{Arrows, mark_all, torn_arrows};
 use crate::descriptions::Descriptions;
@@ -34,7 +34,7 @@ impl Web for KeyLinks {
 
     ghost link = { Forward };
 
-    ghost small = { Prim.search Needs.needs };
+    ghost small = { Prim.search rules };
 
     fn points(&self) -> usize {
         KEYS
@@ -98,7 +98,7 @@ impl Web for Keys {
 
     ghost link = { Backward };
 
-    ghost small = { Prim.search Needs.needs };
+    ghost small = { Prim.search rules };
 
     fn points(&self) -> usize {
         KEYS + 1

@@ -15,13 +15,13 @@ loop-arrow-preserved c =
     let rows = c.args.rows.now in
     let w = c.args.arrows.now in
     let p = c.loop-arrow.arrow in
-    let marks = c.mark-all.new.marks in
-    let told : ArrowReaches rows p marks = arrow_reaches rows w c.requires.told c.requires.sound p c.loop-arrow-test.true marks c.mark-all.ensures in
+    let marks = c.mark_all.new.marks in
+    let told : ArrowReaches rows p marks = arrow_reaches rows w c.requires.told c.requires.sound p c.loop-arrow-test.true marks c.mark_all.ensures in
     elim c.if-torn.branch [
       | then-torn v ↦
           subst (Gathers (ArrowTorn rows) (p + 1)) (sym v.found-is)
           (gathers_more c.loop-arrow.invariant (arrow_torn rows c.requires.sound p p marks marks told told v.if-torn.ensures)
-          v.with-member-found.ensures)
+          v.with_member-found.ensures)
       | else-torn v ↦
           subst (Gathers (ArrowTorn rows) (p + 1)) (sym v.found-is)
           (gathers_past c.loop-arrow.invariant

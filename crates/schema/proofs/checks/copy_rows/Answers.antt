@@ -4,15 +4,15 @@ use Rattle.schema.specs.declared.row.Row.{Row}
 use Rattle.schema.specs.Verdicts.{over_limits}
 use Rattle.schema.proofs.Members.{copied_more, not_past}
 use Rattle.schema.proofs.checks.copy_rows.Goals as goal
-use Rattle.schema.proofs.checks.copy_rows.Goals.{then-classes-gt-MOST-CLASSES-via-then-classes-gt-MOST-CLASSES, then-classes-gt-MOST-CLASSES-via-else-classes-gt-MOST-CLASSES+then-arrows-gt-MOST-ARROWS, then-classes-gt-MOST-CLASSES-via-else-classes-gt-MOST-CLASSES+else-arrows-gt-MOST-ARROWS+then-len-gt-MOST-ROWS, in-Some, in-default}
+use Rattle.schema.proofs.checks.copy_rows.Goals.{then-classes-gt-MOST_CLASSES-via-then-classes-gt-MOST_CLASSES, then-classes-gt-MOST_CLASSES-via-else-classes-gt-MOST_CLASSES+then-arrows-gt-MOST_ARROWS, then-classes-gt-MOST_CLASSES-via-else-classes-gt-MOST_CLASSES+else-arrows-gt-MOST_ARROWS+then-len-gt-MOST_ROWS, in-Some, in_default}
 
-pub returns-then-classes-gt-MOST-CLASSES : goal.returns-then-classes-gt-MOST-CLASSES
-returns-then-classes-gt-MOST-CLASSES g c =
+pub returns-then-classes-gt-MOST_CLASSES : goal.returns-then-classes-gt-MOST_CLASSES
+returns-then-classes-gt-MOST_CLASSES g c =
     over_limits
-    (elim c.then-classes-gt-MOST-CLASSES.branch [
-      | then-classes-gt-MOST-CLASSES-via-then-classes-gt-MOST-CLASSES w ↦ inl (omega (arith, c.classes.ensures, w.if-classes-gt-MOST-CLASSES.true))
-      | then-classes-gt-MOST-CLASSES-via-else-classes-gt-MOST-CLASSES+then-arrows-gt-MOST-ARROWS w ↦ inr (inl (omega (arith, w.arrows.ensures, w.if-arrows-gt-MOST-ARROWS.true)))
-      | then-classes-gt-MOST-CLASSES-via-else-classes-gt-MOST-CLASSES+else-arrows-gt-MOST-ARROWS+then-len-gt-MOST-ROWS w ↦ inr (inr (omega (arith, c.len-len.ensures, w.if-len-gt-MOST-ROWS.true)))
+    (elim c.then-classes-gt-MOST_CLASSES.branch [
+      | then-classes-gt-MOST_CLASSES-via-then-classes-gt-MOST_CLASSES w ↦ inl (omega (arith, c.classes.ensures, w.if-classes-gt-MOST_CLASSES.true))
+      | then-classes-gt-MOST_CLASSES-via-else-classes-gt-MOST_CLASSES+then-arrows-gt-MOST_ARROWS w ↦ inr (inl (omega (arith, w.arrows.ensures, w.if-arrows-gt-MOST_ARROWS.true)))
+      | then-classes-gt-MOST_CLASSES-via-else-classes-gt-MOST_CLASSES+else-arrows-gt-MOST_ARROWS+then-len-gt-MOST_ROWS w ↦ inr (inr (omega (arith, c.len-len.ensures, w.if-len-gt-MOST_ROWS.true)))
     ])
 
 pub loop-k-preserved : goal.loop-k-preserved
@@ -25,7 +25,7 @@ loop-k-preserved g c =
         | in-Some w ↦
             subst (λ (rs : List Row). take (k + 1) rs ≡ take (k + 1) rows) (sym w.rows-is)
             (copied_more rows c.loop-k.rows k w.in-Some.row h w.in-Some.ensures l c.loop-k.invariant.0)
-        | in-default w ↦ absurd (not_past rows k (record { letter = 0; a = 0; b = 0; n = 0 }) l w.in-default.ensures)
+        | in_default w ↦ absurd (not_past rows k (record { letter = 0; a = 0; b = 0; n = 0 }) l w.in_default.ensures)
       ],
       omega (arith, c.match-row.auto.rows, c.loop-k.invariant.1),
     )

@@ -12,7 +12,7 @@ loop-x-preserved c =
     let Marked = λ (x : ℕ). get_or c.args.marks.now (c.args.first + x) 0 ≡ 1 in
     elim c.if-marks-first-eq1.branch [
       | then-marks-first-eq1 v ↦
-          subst (Gathers Marked (c.loop-x.x + 1)) (sym v.found-is) (gathers_more c.loop-x.invariant v.if-marks-first-eq1.true v.with-member-found.ensures)
+          subst (Gathers Marked (c.loop-x.x + 1)) (sym v.found-is) (gathers_more c.loop-x.invariant v.if-marks-first-eq1.true v.with_member-found.ensures)
       | else-marks-first-eq1 v ↦ subst (Gathers Marked (c.loop-x.x + 1)) (sym v.found-is) (gathers_past c.loop-x.invariant v.if-marks-first-eq1.false)
     ]
 

@@ -10,38 +10,38 @@ use Rattle.schema.proofs.lines.read_numbers.Goals as goal
 at_column : (e : ColumnFault) (line x y : ℕ) → e ≡ record { line = line; column = x } → x ≡ y → e ≡ record { line = line; column = y }
 at_column e line x y p q = rw (← q) p
 
-pub returns-in-err-a : goal.returns-in-err-a
-returns-in-err-a c =
-    let p = err_from_is_err_and c.from-residual.result c.from-residual.ensures.1 in
-    let q = c.in-err-a.ensures in
+pub returns-in_err-a : goal.returns-in_err-a
+returns-in_err-a c =
+    let p = err_from_is_err_and c.from_residual.result c.from_residual.ensures.1 in
+    let q = c.in_err-a.ensures in
     let s = in_group Two c.args.rest.now q.0 refl c.requires.0 two_some q.1 q.3 in
     rw (p.1, p.2) (q.0, at_column _ _ _ _ q.2 (omega arith), s)
 
-pub returns-in-err-b : goal.returns-in-err-b
-returns-in-err-b c =
-    let p = err_from_is_err_and c.from-residual-in-err-b.result c.from-residual-in-err-b.ensures.1 in
-    let q = c.in-err-b.ensures in
+pub returns-in_err-b : goal.returns-in_err-b
+returns-in_err-b c =
+    let p = err_from_is_err_and c.from_residual-in_err-b.result c.from_residual-in_err-b.ensures.1 in
+    let q = c.in_err-b.ensures in
     let r = rest_parts c.args.rest.now c.requires.1 in
-    let s = after_group Two q.0 refl c.in-ok-a.ensures (in_group Three _ q.0 r refl three_some q.1 q.3) in
+    let s = after_group Two q.0 refl c.in_ok-a.ensures (in_group Three _ q.0 r refl three_some q.1 q.3) in
     rw (p.1, p.2) (4 + q.0, at_column _ _ _ _ q.2 (omega arith), s)
 
-pub returns-in-err-n : goal.returns-in-err-n
-returns-in-err-n c =
-    let p = err_from_is_err_and c.from-residual-in-err-n.result c.from-residual-in-err-n.ensures.1 in
-    let q = c.in-err-n.ensures in
+pub returns-in_err-n : goal.returns-in_err-n
+returns-in_err-n c =
+    let p = err_from_is_err_and c.from_residual-in_err-n.result c.from_residual-in_err-n.ensures.1 in
+    let q = c.in_err-n.ensures in
     let r = rest_parts c.args.rest.now c.requires.1 in
-    let s = after_group Two (4 + q.0) refl c.in-ok-a.ensures (after_group Three q.0 r c.in-ok-b.ensures (in_group Feed _ q.0 refl refl refl q.1 q.3)) in
+    let s = after_group Two (4 + q.0) refl c.in_ok-a.ensures (after_group Three q.0 r c.in_ok-b.ensures (in_group Feed _ q.0 refl refl refl q.1 q.3)) in
     rw (p.1, p.2) (4 + (4 + q.0), at_column _ _ _ _ q.2 (omega arith), s)
 
 pub returns-then-feed-ne10 : goal.returns-then-feed-ne10
 returns-then-feed-ne10 c =
     let r = rest_parts c.args.rest.now c.requires.1 in
-    let s = after_group Two 8 refl c.in-ok-a.ensures (after_group Three 4 r c.in-ok-b.ensures (after_group Feed 0 refl c.in-ok-n.ensures (feed_strays _ c.if-feed-ne10.true))) in
+    let s = after_group Two 8 refl c.in_ok-a.ensures (after_group Three 4 r c.in_ok-b.ensures (after_group Feed 0 refl c.in_ok-n.ensures (feed_strays _ c.if-feed-ne10.true))) in
     (12, refl, s)
 
 pub returns : goal.returns
 returns c =
-    let a = c.in-ok-a.ensures in
-    let b = c.in-ok-b.ensures in
-    let n = c.in-ok-n.ensures in
+    let a = c.in_ok-a.ensures in
+    let b = c.in_ok-b.ensures in
+    let n = c.in_ok-n.ensures in
     (a.0, b.0, n.0, numbers_spelled _ _ _ _ a.1 (rest_parts c.args.rest.now c.requires.1) b.1 n.1 c.if-feed-ne10.false)

@@ -3,7 +3,7 @@ use Rattle.schema.specs.Columns.{blank_row}
 use Rattle.schema.proofs.Loads.{grown_more, grown_all, grown_room}
 use Rattle.schema.proofs.Members.{not_past}
 use Rattle.schema.proofs.loading.enter_all.Goals as goal
-use Rattle.schema.proofs.loading.enter_all.Goals.{in-Some+in-Ok, in-default}
+use Rattle.schema.proofs.loading.enter_all.Goals.{in-Some+in-Ok, in_default}
 
 pub unreachable-requires : goal.unreachable-requires
 unreachable-requires g c =
@@ -17,7 +17,7 @@ loop-k-preserved g c =
     let l : c.loop-k.k < length rows = omega arith in
     elim c.match-row.branch [
       | in-Some+in-Ok w ↦ ap g.S.Sheet.shows w.sheet-is ∙ grown_more s _ _ rows c.loop-k.k w.in-Some.row c.loop-k.invariant l w.in-Some.ensures w.in-Ok.ensures.1
-      | in-default w ↦ absurd (not_past rows c.loop-k.k blank_row l w.in-default.ensures)
+      | in_default w ↦ absurd (not_past rows c.loop-k.k blank_row l w.in_default.ensures)
     ]
 
 pub returns : goal.returns

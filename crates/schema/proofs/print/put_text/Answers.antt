@@ -8,8 +8,8 @@ use Rattle.schema.proofs.RowLines.{lines_more, text_begun}
 use Rattle.schema.proofs.Uniques.{sound_few}
 use Rattle.schema.proofs.print.put_text.Goals as goal
 
-pub put-line-requires-in-loop-row : goal.put-line-requires-in-loop-row
-put-line-requires-in-loop-row c =
+pub put_line-requires-in-loop-row : goal.put_line-requires-in-loop-row
+put_line-requires-in-loop-row c =
     let rows = c.args.rows.now in
     let k = c.loop-row.row-index in
     let few = sound_few c.args.classes c.args.arrows (get_or rows k blank_row) c.requires.small.few_classes c.requires.small.few_arrows
@@ -18,8 +18,8 @@ put-line-requires-in-loop-row c =
 
 pub loop-row-preserved : goal.loop-row-preserved
 loop-row-preserved c = (
-  lines_more 14 c.args.rows.now c.loop-row.row-index c.loop-row.end blank_row c.put-line.new.bytes _ _ (omega arith)
-      c.loop-row-test.true (omega (arith, c.loop-row.invariant.1)) c.loop-row.invariant.0 c.put-line-in-loop-row.ensures,
+  lines_more 14 c.args.rows.now c.loop-row.row-index c.loop-row.end blank_row c.put_line.new.bytes _ _ (omega arith)
+      c.loop-row-test.true (omega (arith, c.loop-row.invariant.1)) c.loop-row.invariant.0 c.put_line-in-loop-row.ensures,
   omega (arith, c.loop-row.invariant.1),
 )
 
@@ -27,4 +27,4 @@ pub returns : goal.returns
 returns c =
     let rows = c.args.rows.now in
     text_begun c.args.classes c.args.arrows rows c.loop-row.end c.args.bytes.now _ _ (omega (arith, c.loop-row.invariant.1)) (omega (arith, c.loop-row.invariant.1))
-    c.put-line.ensures (c.loop-row.invariant.0 ∙ ap (λ l. spliced 14 (row_lines l) c.put-line.new.bytes) (take_all c.loop-row.row-index rows c.loop-row-test.false))
+    c.put_line.ensures (c.loop-row.invariant.0 ∙ ap (λ l. spliced 14 (row_lines l) c.put_line.new.bytes) (take_all c.loop-row.row-index rows c.loop-row-test.false))

@@ -4,6 +4,6 @@ use Rattle.schema.proofs.print.reprint.Goals as goal
 
 pub returns-in-Err : goal.returns-in-Err
 returns-in-Err c =
-    let t = c.in-ok-sheet.ensures.tells in
-    let short = short_reprint (text_shows c.in-ok-sheet.sheet) c.args.bytes.now c.print.new.bytes c.in-Err.field-0 t c.in-Err.ensures in
+    let t = c.in_ok-sheet.ensures.tells in
+    let short = short_reprint (text_shows c.in_ok-sheet.sheet) c.args.bytes.now c.print.new.bytes c.in-Err.field-0 t c.in-Err.ensures in
     ((_, _, _, t), short.0, short.1)

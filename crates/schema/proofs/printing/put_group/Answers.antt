@@ -4,4 +4,4 @@ use Rattle.schema.proofs.Splices.{part_spliced}
 use Rattle.schema.proofs.printing.put_group.Goals as goal
 
 pub returns : goal.returns
-returns c = part_spliced c.args.at _ c.args.bytes.now _ (group c.args.n) (c.copy-from-slice.ensures.after ∙ c.group-of-columns.ensures) (omega arith)
+returns c = part_spliced c.args.at _ c.args.bytes.now _ (group c.args.n) (c.copy_from_slice.ensures.after ∙ c.group_of-columns.ensures) (omega arith)

@@ -7,4 +7,4 @@ pub returns : goal.returns
 returns c =
     let s = c.args.bytes.now in
     line_spliced c.args.at c.args.letter c.args.a c.args.b c.args.n s _ _ _ (omega arith)
-    (omega (arith, length-set s c.args.at c.args.letter)) c.put-group.ensures c.put-group-2.ensures c.put-group-3.ensures
+    (omega (arith, length-set s c.args.at c.args.letter)) c.put_group.ensures c.put_group-2.ensures c.put_group-3.ensures

@@ -16,7 +16,7 @@ loop-k-preserved c =
     let s = c.args.bytes.now in
     elim c.if-byte-eq1.branch [
       | then-byte-eq1 w ↦ named_one _ _ _ table s _ _ c.loop-k.invariant c.loop-k-test.true _ _ (omega arith)
-          w.if-byte-eq1.true (w.bytes-is ∙ w.put-line.ensures) (omega (arith, w.end-is))
+          w.if-byte-eq1.true (w.bytes-is ∙ w.put_line.ensures) (omega (arith, w.end-is))
       | else-byte-eq1 w ↦ named_none _ _ _ table s _ _ c.loop-k.invariant c.loop-k-test.true _ _ w.if-byte-eq1.false w.bytes-is w.end-is
     ]
 

@@ -61,7 +61,7 @@ returns-in-80 c =
     record {
       rule = P r.a r.b;
       writes = sym (row_is r 80 r.a r.b 0 c.in-80.is refl refl (omega (arith, f.3)));
-      told = c.arrow-leads.ensures;
+      told = c.arrow_leads.ensures;
     }
 
 pub returns-in-81 : goal.returns-in-81
@@ -71,5 +71,5 @@ returns-in-81 c =
     record {
       rule = Q r.a r.b;
       writes = sym (row_is r 81 r.a r.b 0 c.in-81.is refl refl (omega (arith, f.3)));
-      told = c.arrows-parted.ensures;
+      told = c.arrows_parted.ensures;
     }

@@ -3,4 +3,4 @@ use Rattle.schema.proofs.question.ask.Goals as goal
 
 pub returns : goal.returns
 returns c =
-    answered c.args.classes c.args.arrows c.args.rows.now c.requires c.args.asked c.in-default.ensures c.if-uncountable.ensures c.answer.result c.answer.ensures
+    answered c.args.classes c.args.arrows c.args.rows.now c.requires c.args.asked c.in_default.ensures c.if-uncountable.ensures c.answer.result c.answer.ensures

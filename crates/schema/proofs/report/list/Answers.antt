@@ -4,10 +4,10 @@ use Rattle.schema.proofs.Names.{ones_few, length_names}
 use Rattle.schema.proofs.Writings.{list_begun}
 use Rattle.schema.proofs.report.list.Goals as goal
 
-pub put-names-requires : goal.put-names-requires
-put-names-requires c =
+pub put_names-requires : goal.put_names-requires
+put_names-requires c =
     let classes = c.args.classes.now in
-    (omega arith, omega (arith, ones_few 0 classes, length_names 67 (ones_from 0 classes), c.put-names-end.ensures.end))
+    (omega arith, omega (arith, ones_few 0 classes, length_names 67 (ones_from 0 classes), c.put_names-end.ensures.end))
 
 pub returns : goal.returns
 returns c =
@@ -15,5 +15,5 @@ returns c =
     let arrows = ones_from 0 c.args.arrows.now in
     list_begun classes arrows c.args.bytes.now _ _ _ _ _ _ _
     (omega (arith, ones_few 0 c.args.classes.now)) (omega (arith, ones_few 0 c.args.arrows.now)) (omega arith)
-    c.ones.ensures.counted c.ones-2.ensures.counted c.put-line.ensures
-    c.put-names-end.ensures.written c.put-names-end.ensures.end c.put-names.ensures.written c.put-names.ensures.end
+    c.ones.ensures.counted c.ones-2.ensures.counted c.put_line.ensures
+    c.put_names-end.ensures.written c.put_names-end.ensures.end c.put_names.ensures.written c.put_names.ensures.end

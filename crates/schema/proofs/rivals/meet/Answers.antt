@@ -10,8 +10,8 @@ pub returns : goal.returns
 returns c =
     let a = c.args.one in
     let b = c.args.two in
-    let k = c.next-member.result in
-    let least = c.next-member.ensures in
+    let k = c.next_member.result in
+    let least = c.next_member.ensures in
     ⊎_elim
     (λ (l : k < 64).
     let m : bit k (bit_and a b) ≡ 1 = least.found l in

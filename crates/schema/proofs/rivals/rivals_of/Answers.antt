@@ -30,21 +30,21 @@ returns-in-88 c =
     let w = c.args.links.now in
     let e = c.in-88.is in
     let f = fits_at r 88 e c.requires in
-    let j = c.with-member.ensures in
+    let j = c.with_member.ensures in
     record {
       small = λ k m. ⊎_elim (λ (o : Member 0 k). absurd (none k o)) (λ (q : k ≡ r.b). omega (arith, f.1)) (j.only k m);
       only = λ k m. ⊎_elim (λ (o : Member 0 k). absurd (none k o)) (λ (q : k ≡ r.b). apart e q) (j.only k m);
-      all = λ k l v. subst (Member c.with-member.result) (sym (only_x w r k e v)) j.new;
+      all = λ k l v. subst (Member c.with_member.result) (sym (only_x w r k e v)) j.new;
     }
 
 pub returns-in-75 : goal.returns-in-75
 returns-in-75 c =
     let r = c.args.row in
     let e = c.in-75.is in
-    gathers_same c.needing-more.ensures (λ k l h. needs_more e h) (λ k l v. only_k c.args.links.now r k e v)
+    gathers_same c.needing_more.ensures (λ k l h. needs_more e h) (λ k l v. only_k c.args.links.now r k e v)
 
-pub returns-in-default : goal.returns-in-default
-returns-in-default c =
+pub returns-in_default : goal.returns-in_default
+returns-in_default c =
     record {
       small = λ k m. absurd (none k m);
       only = λ k m. absurd (none k m);

@@ -12,12 +12,12 @@ loop-name-preserved c =
     let t = c.loop-name.table in
     let i = c.loop-name.name in
     let from = c.args.empty.now in
-    let key = c.name-key.result in
+    let key = c.name_key.result in
     let v = get_or from key 0 in
     let h : i < length t = omega (arith, c.requires.room, c.loop-name.auto.table) in (
       λ k l m. written t i v k (get_or from k 0) h
-          (λ e. ap (λ (j : ℕ). get_or from j 0) (c.name-key.ensures.class (omega arith) ∙ sym e)) (λ e. c.loop-name.invariant.0 k (omega arith) m),
+          (λ e. ap (λ (j : ℕ). get_or from j 0) (c.name_key.ensures.class (omega arith) ∙ sym e)) (λ e. c.loop-name.invariant.0 k (omega arith) m),
       λ k l. written t i v (c.args.classes + k) (get_or from (64 + 2 * k) 0) h
-          (λ e. let q : key ≡ 64 + 2 * k = omega (arith, c.name-key.ensures.arrow (omega arith)) in ap (λ (j : ℕ). get_or from j 0) q) (λ e. c.loop-name.invariant.1 k (omega arith)),
+          (λ e. let q : key ≡ 64 + 2 * k = omega (arith, c.name_key.ensures.arrow (omega arith)) in ap (λ (j : ℕ). get_or from j 0) q) (λ e. c.loop-name.invariant.1 k (omega arith)),
       drop-set-lt (c.args.classes + c.args.arrows) t i v (omega arith) ∙ c.loop-name.invariant.2,
     )

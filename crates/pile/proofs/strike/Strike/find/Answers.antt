@@ -13,7 +13,7 @@ pub returns-then-struck-at : goal.returns-then-struck-at
 returns-then-struck-at g c =
     let xs = struck_rows c.args.self.now in
     let at = c.place-at.result in
-    let same = c.as-slice-struck.ensures.value in
+    let same = c.as_slice-struck.ensures.value in
     let place = located _ xs c.args.k at c.place-at.ensures same in
     record {
       place = place;
@@ -24,7 +24,7 @@ pub returns-else-at-struck : goal.returns-else-at-struck
 returns-else-at-struck g c =
     let xs = struck_rows c.args.self.now in
     let at = c.place-at.result in
-    let same = c.as-slice-struck.ensures.value in
+    let same = c.as_slice-struck.ensures.value in
     let place = located _ xs c.args.k at c.place-at.ensures same in
     let missed : at < length xs → get_or xs at 0 ≡ c.args.k → ⊥ =
     elim c.else-at-struck.branch [

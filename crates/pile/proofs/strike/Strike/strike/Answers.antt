@@ -5,12 +5,15 @@ use Rattle.pile.specs.Strikes.{struck_rows}
 use Rattle.pile.proofs.Rising.{inserted_is, rises_adds}
 use Rattle.pile.proofs.strike.Strike.strike.Goals as goal
 
-pub invariant-of-self : goal.invariant-of-self
-invariant-of-self g c =
+pub invariant_of-self : goal.invariant_of-self
+invariant_of-self g c =
     let xs = struck_rows c.args.self.now in
     let missing : among c.args.k xs ≡ false = sym c.find-at.ensures.found ∙ c.if-found.false in
     let added = c.put.ensures.items ∙ ap (λ (j : ℕ). insert xs j c.args.k) c.find-at.ensures.place.0 ∙ inserted_is c.args.k xs in
-    ((omega arith, omega (arith, c.args.self.now.room)), (ap rises added ∙ rises_adds c.args.k xs c.args.self.now.rising missing, tt))
+    record {
+      room = (omega arith, omega (arith, c.args.self.now.room));
+      rising = ap rises added ∙ rises_adds c.args.k xs c.args.self.now.rising missing;
+    }
 
 pub returns : goal.returns
 returns g c =

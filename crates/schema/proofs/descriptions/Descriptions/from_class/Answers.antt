@@ -13,5 +13,5 @@ split w x j (along h t) = absurd (omega arith)
 
 pub returns : needs.returns
 returns c =
-    least_either c.next-class-up.ensures c.next-need-need.ensures c.min.ensures (λ k t. up refl t) (λ k t. need refl t)
+    least_either c.next_class-up.ensures c.next_need-need.ensures c.min.ensures (λ k t. up refl t) (λ k t. need refl t)
     (split c.args.self.now c.args.class)

@@ -30,9 +30,9 @@ returns c =
     let m = c.args.times in
     elim c.if-times-eq1.branch [
       | then-times-eq1 w ↦
-          least_either c.next-arrow-along.ensures w.next-class-other.ensures (c.min.ensures ∙ ap (λ (i : ℕ). min c.next-arrow-along.result i) w.other-is)
+          least_either c.next_arrow-along.ensures w.next_class-other.ensures (c.min.ensures ∙ ap (λ (i : ℕ). min c.next_arrow-along.result i) w.other-is)
           (λ k t. along c.requires.mark.0 t) (λ k t. domain w.if-times-eq1.true t) (λ k. once s x m k w.if-times-eq1.true)
       | else-times-eq1 w ↦
-          least_either c.next-arrow-along.ensures w.not-below-other.ensures (c.min.ensures ∙ ap (λ (i : ℕ). min c.next-arrow-along.result i) w.other-is)
+          least_either c.next_arrow-along.ensures w.not_below-other.ensures (c.min.ensures ∙ ap (λ (i : ℕ). min c.next_arrow-along.result i) w.other-is)
           (λ k t. along c.requires.mark.0 t) (λ k t. below (omega arith) (omega arith)) (λ k. more s x m k w.if-times-eq1.false c.requires.mark.0)
     ]

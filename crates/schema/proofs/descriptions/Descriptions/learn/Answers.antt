@@ -9,7 +9,7 @@ returns-in-83 c rows t =
     let w = c.args.self.now in
     let f = fits_at r 83 c.in-83.is c.requires in
     record {
-      supers = told_more 83 w.supers rows r c.with-member.result c.in-83.is (omega (arith, f.3)) (omega (arith, f.0)) c.with-member.ensures t.supers;
+      supers = told_more 83 w.supers rows r c.with_member.result c.in-83.is (omega (arith, f.3)) (omega (arith, f.0)) c.with_member.ensures t.supers;
       domains = told_other 68 w.domains rows r (λ e. omega arith) t.domains;
       overs = told_other 80 w.overs rows r (λ e. omega arith) t.overs;
       needs = needed_other w.needs w.counts rows r (λ e. omega arith) t.needs;
@@ -22,7 +22,7 @@ returns-in-68 c rows t =
     let f = fits_at r 68 c.in-68.is c.requires in
     record {
       supers = told_other 83 w.supers rows r (λ e. omega arith) t.supers;
-      domains = told_more 68 w.domains rows r c.with-member-in-68.result c.in-68.is (omega (arith, f.3)) (omega (arith, f.0)) c.with-member-in-68.ensures t.domains;
+      domains = told_more 68 w.domains rows r c.with_member-in-68.result c.in-68.is (omega (arith, f.3)) (omega (arith, f.0)) c.with_member-in-68.ensures t.domains;
       overs = told_other 80 w.overs rows r (λ e. omega arith) t.overs;
       needs = needed_other w.needs w.counts rows r (λ e. omega arith) t.needs;
     }
@@ -35,12 +35,12 @@ returns-in-80 c rows t =
     record {
       supers = told_other 83 w.supers rows r (λ e. omega arith) t.supers;
       domains = told_other 68 w.domains rows r (λ e. omega arith) t.domains;
-      overs = told_more 80 w.overs rows r c.with-member-in-80.result c.in-80.is (omega (arith, f.3)) (omega (arith, f.0)) c.with-member-in-80.ensures t.overs;
+      overs = told_more 80 w.overs rows r c.with_member-in-80.result c.in-80.is (omega (arith, f.3)) (omega (arith, f.0)) c.with_member-in-80.ensures t.overs;
       needs = needed_other w.needs w.counts rows r (λ e. omega arith) t.needs;
     }
 
-pub returns-in-default : goal.returns-in-default
-returns-in-default c rows t =
+pub returns-in_default : goal.returns-in_default
+returns-in_default c rows t =
     let r = c.args.row in
     let w = c.args.self.now in
     record {

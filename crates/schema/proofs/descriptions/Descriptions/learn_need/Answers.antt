@@ -11,7 +11,7 @@ returns-then-self-place c rows t =
       supers = told_other 83 w.supers rows r (λ e. omega arith) t.supers;
       domains = told_other 68 w.domains rows r (λ e. omega arith) t.domains;
       overs = told_other 80 w.overs rows r (λ e. omega arith) t.overs;
-      needs = needed_higher w.needs w.counts rows r c.with-member.result c.requires.need (omega (arith, f.0)) f.2 (omega (arith, f.1)) c.with-member.ensures t.needs
+      needs = needed_higher w.needs w.counts rows r c.with_member.result c.requires.need (omega (arith, f.0)) f.2 (omega (arith, f.1)) c.with_member.ensures t.needs
           (omega (arith, f.0, f.1)) (omega arith);
     }
 
@@ -24,5 +24,5 @@ returns-else-self-place c rows t =
       supers = told_other 83 w.supers rows r (λ e. omega arith) t.supers;
       domains = told_other 68 w.domains rows r (λ e. omega arith) t.domains;
       overs = told_other 80 w.overs rows r (λ e. omega arith) t.overs;
-      needs = needed_lower w.needs w.counts rows r c.with-member.result c.requires.need (omega (arith, f.0)) f.2 (omega (arith, f.1)) c.with-member.ensures t.needs (omega arith);
+      needs = needed_lower w.needs w.counts rows r c.with_member.result c.requires.need (omega (arith, f.0)) f.2 (omega (arith, f.1)) c.with_member.ensures t.needs (omega arith);
     }

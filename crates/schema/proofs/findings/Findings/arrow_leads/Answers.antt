@@ -16,9 +16,9 @@ pub returns-else-self-from-eq1 : goal.returns-else-self-from-eq1
 returns-else-self-from-eq1 c =
     let rows = c.args.rows.now in
     let p = c.args.from in
-    let marks = c.mark-all.new.marks in
+    let marks = c.mark_all.new.marks in
     let b = get_or c.args.self.now.empty (64 + 2 * p) 0 in
     tells_second _ (Leads (ArrowLink rows) p c.args.to)
     (λ z. c.if-self-from-eq1.false (bit_holds (arrow_bit rows c.args.self.now.empty b p c.requires.within.0 refl c.requires.found.empty) z))
     (tells_bit (get_or marks c.args.to 0)
-    (arrow_reaches rows c.args.self.now.arrows c.requires.found.arrows c.requires.sound p c.requires.within.0 marks c.mark-all.ensures c.args.to c.requires.within.1))
+    (arrow_reaches rows c.args.self.now.arrows c.requires.found.arrows c.requires.sound p c.requires.within.0 marks c.mark_all.ensures c.args.to c.requires.within.1))

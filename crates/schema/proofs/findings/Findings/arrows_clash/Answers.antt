@@ -9,8 +9,8 @@ returns c =
     let sound = c.requires.sound in
     let p = c.args.one in
     let q = c.args.two in
-    let first = c.mark-all.new.marks in
-    let second = c.mark-all-2.new.marks in
-    let from-p = arrow_reaches rows c.args.self.now.arrows c.requires.found.arrows sound p c.requires.within.0 first c.mark-all.ensures in
-    let from-q = arrow_reaches rows c.args.self.now.arrows c.requires.found.arrows sound q c.requires.within.1 second c.mark-all-2.ensures in
+    let first = c.mark_all.new.marks in
+    let second = c.mark_all-2.new.marks in
+    let from-p = arrow_reaches rows c.args.self.now.arrows c.requires.found.arrows sound p c.requires.within.0 first c.mark_all.ensures in
+    let from-q = arrow_reaches rows c.args.self.now.arrows c.requires.found.arrows sound q c.requires.within.1 second c.mark_all-2.ensures in
     tells_same c.torn.result (arrow_torn rows sound p q first second from-p from-q) (arrow_torn_by rows sound p q first second from-p from-q) c.torn.ensures

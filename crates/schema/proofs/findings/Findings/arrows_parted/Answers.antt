@@ -4,16 +4,16 @@ use Rattle.schema.specs.Webs.{mark}
 use Rattle.schema.proofs.Answering.{tails_part, heads_part, heads_left, tail_placed, head_placed}
 use Rattle.schema.proofs.Signs.{tells_same}
 use Rattle.schema.proofs.findings.Findings.arrows_parted.Goals as goal
-use Rattle.schema.proofs.findings.Findings.arrows_parted.Goals.{then-arrows-clash-via-then-arrows-clash, then-arrows-clash-via-else-arrows-clash+then-parted}
+use Rattle.schema.proofs.findings.Findings.arrows_parted.Goals.{then-arrows_clash-via-then-arrows_clash, then-arrows_clash-via-else-arrows_clash+then-parted}
 
-pub returns-then-arrows-clash : goal.returns-then-arrows-clash
-returns-then-arrows-clash c =
+pub returns-then-arrows_clash : goal.returns-then-arrows_clash
+returns-then-arrows_clash c =
     let rows = c.args.rows.now in
     let p = c.args.one in
     let q = c.args.two in
-    elim c.then-arrows-clash.branch [
-      | then-arrows-clash-via-then-arrows-clash v ↦ inr (inr (inl v.if-arrows-clash.ensures))
-      | then-arrows-clash-via-else-arrows-clash+then-parted v ↦
+    elim c.then-arrows_clash.branch [
+      | then-arrows_clash-via-then-arrows_clash v ↦ inr (inr (inl v.if-arrows_clash.ensures))
+      | then-arrows_clash-via-else-arrows_clash+then-parted v ↦
           tails_part rows p q
           (v.if-parted.ensures (mark (2 * p) 1) (mark (2 * q) 1) (tail_placed p c.requires.within.0) (tail_placed q c.requires.within.1) (omega arith) (omega arith))
     ]
@@ -26,6 +26,6 @@ returns c =
     let hp = c.requires.within.0 in
     let hq = c.requires.within.1 in
     tells_same c.parted-2.result (heads_part rows p q)
-    (heads_left rows p q c.if-arrows-clash.ensures
+    (heads_left rows p q c.if-arrows_clash.ensures
     (c.if-parted.ensures (mark (2 * p) 1) (mark (2 * q) 1) (tail_placed p hp) (tail_placed q hq) (omega arith) (omega arith)))
     (c.parted-2.ensures (mark (2 * p + 1) 1) (mark (2 * q + 1) 1) (head_placed p hp) (head_placed q hq) (omega arith) (omega arith))

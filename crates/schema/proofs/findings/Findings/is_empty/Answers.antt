@@ -13,6 +13,6 @@ returns-else-torn c d h told =
     let rows = c.args.rows.now in
     let marks = c.args.marks.now in
     let empty = c.args.self.now.empty in
-    tells_same c.marks-empty.result (marked_empties rows c.requires.sound d marks empty told c.requires.found.empty)
+    tells_same c.marks_empty.result (marked_empties rows c.requires.sound d marks empty told c.requires.found.empty)
     (λ z. ⊎_elim (λ t. absurd (c.if-torn.ensures t)) (λ m. m) (empty_marked rows c.requires.sound d marks empty told c.requires.found.empty h z))
-    c.marks-empty.ensures
+    c.marks_empty.ensures

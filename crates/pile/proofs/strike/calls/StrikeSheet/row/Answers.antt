@@ -6,8 +6,8 @@ use Rattle.pile.specs.Strikes.{unstruck}
 use Rattle.pile.proofs.Taken.{nth_unstruck, length_unstruck}
 use Rattle.pile.proofs.strike.calls.StrikeSheet.row.Goals as goal
 
-pub returns-then-k-ge-MOST-SHOWN : goal.returns-then-k-ge-MOST-SHOWN
-returns-then-k-ge-MOST-SHOWN g c =
+pub returns-then-k-ge-MOST_SHOWN : goal.returns-then-k-ge-MOST_SHOWN
+returns-then-k-ge-MOST_SHOWN g c =
     let rows = (g.S.Sheet.shows c.args.self.now.below).rows in
     let xs = vec_items c.args.self.now.struck in
     let w = g.S.Sheet.bounded c.args.self.now.below in
@@ -18,5 +18,5 @@ returns g c =
     let rows = (g.S.Sheet.shows c.args.self.now.below).rows in
     let xs = vec_items c.args.self.now.struck in
     c.row.ensures
-    ∙ ap (λ (j : ℕ). slice_get rows j) (c.skip.ensures ∙ ap (λ (zs : List ℕ). shifted c.args.k zs) c.as-slice.ensures.value)
+    ∙ ap (λ (j : ℕ). slice_get rows j) (c.skip.ensures ∙ ap (λ (zs : List ℕ). shifted c.args.k zs) c.as_slice.ensures.value)
     ∙ sym (nth_unstruck xs rows c.args.k c.args.self.now.rising)

@@ -5,8 +5,8 @@ use Rattle.pile.specs.Trials.{own_rows}
 use Rattle.pile.proofs.Shows.{past_row, below_row, own_row}
 use Rattle.pile.proofs.trial.calls.TrialSheet.row.Goals as goal
 
-pub returns-then-k-ge-MOST-SHOWN : goal.returns-then-k-ge-MOST-SHOWN
-returns-then-k-ge-MOST-SHOWN g c = sym (past_row 65535 _ c.args.k (omega arith))
+pub returns-then-k-ge-MOST_SHOWN : goal.returns-then-k-ge-MOST_SHOWN
+returns-then-k-ge-MOST_SHOWN g c = sym (past_row 65535 _ c.args.k (omega arith))
 
 pub returns-then-k-first : goal.returns-then-k-first
 returns-then-k-first g c = c.row.ensures ∙ sym (below_row 65535 _ _ c.args.k (omega arith) (omega arith))
