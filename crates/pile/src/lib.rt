@@ -1,4 +1,6 @@
 //! Layers over any sheet: trials, which add rows, and strikes, which hide some.
+#![tactic(auto)]
+
 pub mod faults;
 pub mod limits;
 pub mod strike;

@@ -1,4 +1,6 @@
 //! Reads a text from standard input and writes which classes and arrows its rows force empty.
+#![tactic(auto)]
+
 ghost use Rattle.std.specs.Io.{ReadsAtMost};
 
 use schema::report::{REPORT_BYTES, report};

@@ -1,5 +1,5 @@
 -- From what the rows tell of a rule to the answer.
-use Rattle.std.proofs.Common.{◌≡◌, ℕ, ◌+◌, ◌*◌, ◌<◌, ◌≤◌, Bool, true, false, ◌⊎◌, List, Result, sym, refl, ap, subst, inl, inr, arith}
+use Rattle.std.proofs.Common.{◌≡◌, ℕ, ◌+◌, ◌*◌, ◌<◌, Bool, true, false, List, Result, sym, refl, subst, inl, inr, arith}
 use Rattle.std.proofs.lemmas.Bool.{true≢false}
 use Rattle.schema.specs.declared.row.Row.{Row}
 use Rattle.schema.specs.declared.faults.QuestionFault.{QuestionFault}
@@ -12,7 +12,6 @@ use Rattle.schema.specs.Questions.{EmptyDescription, Parted, Yes, Countable}
 use Rattle.schema.specs.Worlds.{Fulfils}
 use Rattle.schema.specs.Verdicts.{Passes, Tells}
 use Rattle.schema.specs.Truth.{Follows}
-use Rattle.schema.proofs.theory.Statements.{Exact}
 use Rattle.schema.specs.Asked.{Uncountable, Answered, Replied, Asked}
 use Rattle.schema.specs.Found.{TellsYes}
 use Rattle.schema.proofs.theory.Caps.{alone?}

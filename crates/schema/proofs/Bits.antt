@@ -1,9 +1,9 @@
 -- Binary digits: of a union, of a single bit, of a shift, and below the trailing zeros.
-use Rattle.std.proofs.Common.{◌≡◌, ℕ, zero, suc, ◌+◌, ◌-◌, ◌*◌, ◌/◌, ◌%◌, ◌^◌, ◌<◌, ◌≤◌, min, max, ◌⊎◌, sym, refl, ap, ◌∙◌, subst, inl, inr, ⊎_elim, not-suc-le-zero, add-zero, add-suc, pow-suc, div-one, arith}
+use Rattle.std.proofs.Common.{◌≡◌, ℕ, zero, suc, ◌+◌, ◌/◌, ◌%◌, ◌^◌, ◌<◌, ◌≤◌, min, max, sym, refl, ap, ◌∙◌, not-suc-le-zero, add-zero, add-suc, pow-suc, div-one, arith}
 use lib.Bits.{bit_and, bit_or, and_step, or_step}
 use lib.Count.{count_trailing_zeros, under}
 use native.Mathlib.Nat.{pow-succ', div-div-eq-div-mul}
-use Rattle.schema.specs.Masks.{bit, Member}
+use Rattle.schema.specs.Masks.{bit}
 
 pub bit_small : (k m : ℕ) → bit k m ≤ 1
 bit_small zero m = omega arith

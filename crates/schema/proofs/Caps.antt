@@ -1,16 +1,16 @@
 -- Arrows that another arrow leads to, and the caps on them.
-use Rattle.std.proofs.Common.{◌≡◌, ℕ, ◌+◌, ◌/◌, ◌<◌, ◌≤◌, Bool, true, false, ◌⊎◌, List, [], ◌∷◌, ◌++◌, Some, None, Option, sym, refl, ap, ◌∙◌, subst, inl, inr, ⊎_elim, arith}
+use Rattle.std.proofs.Common.{◌≡◌, ℕ, ◌≤◌, Bool, true, false, List, [], ◌∷◌, ◌++◌, Some, None, Option, sym, refl, ap, ◌∙◌, subst, ⊎_elim, arith}
 use Rattle.std.proofs.lemmas.Bool.{cases_eq}
-use Rattle.search.specs.Leads.{Leads, stay, go}
+use Rattle.search.specs.Leads.{stay, go}
 use Rattle.search.proofs.Trails.{leads_one}
 use Rattle.schema.specs.declared.row.Row.{Row}
 use Rattle.schema.specs.declared.letters.Kind.{Kind}
 use Rattle.schema.specs.declared.letters.Kind.TheVariants.{Class, Arrow, End}
 use Rattle.schema.specs.declared.letters.Shape.{Shape}
 use Rattle.schema.specs.Masks.{Member, Joins}
-use Rattle.schema.specs.Rows.{◌∈◌, limit, shape_of, Fits, Sound, AllSound}
-use Rattle.schema.specs.Rules.{K, P, row, Has, arrow}
-use Rattle.schema.specs.Webs.{ArrowLink, Alone}
+use Rattle.schema.specs.Rows.{◌∈◌, limit, shape_of, Fits, AllSound}
+use Rattle.schema.specs.Rules.{P, row, Has, arrow}
+use Rattle.schema.specs.Webs.{Alone}
 use Rattle.schema.specs.Verdicts.{CapsShared, Tells}
 use Rattle.schema.specs.Checks.{Shared}
 use Rattle.schema.proofs.Members.{∈_left, ∈_last, ∈_push}

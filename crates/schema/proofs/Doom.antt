@@ -1,15 +1,15 @@
 -- What the backward web of the keys leads to is what is empty.
-use Rattle.std.proofs.Common.{◌≡◌, ℕ, ◌+◌, ◌-◌, ◌*◌, ◌/◌, ◌<◌, ◌≤◌, ◌⊎◌, List, get_or, sym, refl, ap, ◌∙◌, subst, inl, inr, ⊎_elim, arith}
+use Rattle.std.proofs.Common.{◌≡◌, ℕ, ◌+◌, ◌-◌, ◌*◌, ◌/◌, ◌<◌, ◌≤◌, ◌⊎◌, List, get_or, sym, refl, subst, inl, inr, ⊎_elim, arith}
 use Rattle.search.specs.Leads.{Leads, stay, go, Joined, Marked}
-use Rattle.search.proofs.Trails.{leads_both, leads_one, leads_then, marked_one, marked_leads}
+use Rattle.search.proofs.Trails.{leads_both, leads_one, leads_then}
 use Rattle.schema.specs.declared.row.Row.{Row}
 use Rattle.schema.specs.declared.keys.Keys.{Keys}
 use Rattle.schema.specs.Masks.{Member}
 use Rattle.schema.specs.Rows.{AllSound}
 use Rattle.schema.specs.Rules.{arrow}
-use Rattle.schema.specs.Keys.{keyed, EmptyKeys, Torn, Known, Surveyed, Backward, is_torn, to_class, to_end, other_end}
+use Rattle.schema.specs.Keys.{keyed, EmptyKeys, Torn, Surveyed, Backward, is_torn, to_class, to_end, other_end}
 use Rattle.schema.specs.Verdicts.{Bit}
-use Rattle.schema.specs.Webs.{Description, cls, mark, Link, Apart, ArrowLink, ArrowApart, Clashing, Name, desc, arr, Empty, EmptyClass, EmptyArrow, clash, leads, clash_arrow, of_end, of_arrow}
+use Rattle.schema.specs.Webs.{Description, mark, Link, ArrowLink, ArrowApart, Clashing, Name, desc, arr, Empty, EmptyClass, EmptyArrow, clash, leads, clash_arrow, of_end, of_arrow}
 use Rattle.schema.proofs.Reach.{leads_placed}
 use Rattle.schema.proofs.Signs.{bit_one, bit_holds, bit_same}
 use Rattle.schema.proofs.KeyReach.{keyed_class, keyed_end, keyed_mark, keyed_placed}

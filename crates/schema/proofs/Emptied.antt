@@ -1,5 +1,5 @@
 -- Why a description is empty: by what it leads to.
-use Rattle.std.proofs.Common.{◌≡◌, ℕ, ◌+◌, ◌<◌, ◌⊎◌, List, sym, subst, inl, inr, ⊎_elim, arith}
+use Rattle.std.proofs.Common.{ℕ, ◌+◌, ◌<◌, ◌⊎◌, List, sym, subst, inl, inr, ⊎_elim, arith}
 use Rattle.search.specs.Leads.{Leads, stay}
 use Rattle.search.proofs.Trails.{leads_both}
 use Rattle.schema.specs.declared.row.Row.{Row}

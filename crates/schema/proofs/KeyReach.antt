@@ -1,5 +1,5 @@
 -- The web of the keys leads from key to key as the web of descriptions does.
-use Rattle.std.proofs.Common.{◌≡◌, ℕ, ◌+◌, ◌-◌, ◌*◌, ◌/◌, ◌%◌, ◌<◌, ◌≤◌, Bool, cond, ◌⊎◌, List, get_or, sym, refl, ap, ◌∙◌, subst, inl, inr, ⊎_elim, arith}
+use Rattle.std.proofs.Common.{◌≡◌, ℕ, ◌+◌, ◌-◌, ◌*◌, ◌/◌, ◌<◌, ◌≤◌, Bool, cond, List, get_or, sym, ap, ◌∙◌, subst, ⊎_elim, arith}
 use Rattle.std.proofs.lemmas.Bool.{cases_lt, lt-ltb, le-ltb}
 use Rattle.search.specs.Leads.{Leads, stay, go, Joined}
 use Rattle.search.proofs.Trails.{leads_one, leads_both}
@@ -7,7 +7,7 @@ use Rattle.schema.specs.declared.row.Row.{Row}
 use Rattle.schema.specs.declared.keys.KeyLinks.{KeyLinks}
 use Rattle.schema.specs.Masks.{Member}
 use Rattle.schema.specs.Rows.{AllSound}
-use Rattle.schema.specs.Rules.{S, D, F, P, row, Has, arrow, side}
+use Rattle.schema.specs.Rules.{S, D, F, P, row, Has, arrow}
 use Rattle.schema.specs.Points.{Placed, Built}
 use Rattle.schema.specs.Keys.{keyed, Forward, class_class, end_class, to_an_end, ForwardEnd, by_need, by_arrow}
 use Rattle.schema.specs.Webs.{Description, cls, mark, Link, by_S, by_F, by_D, down, by_P}

@@ -10,7 +10,7 @@ use Rattle.schema.specs.declared.faults.CheckFault.{CheckFault}
 use Rattle.schema.specs.declared.row.Row.{Row}
 use Rattle.schema.specs.Refusals.{text_notice, sheet_notice, check_notice}
 use Rattle.schema.specs.Rows.{Unsound, letter_unsound, a_unsound, b_unsound, n_unsound}
-use Rattle.schema.specs.Texts.{BadColumn, line_at, line, TextFaulty, too_short, header_form, too_large, wrong_length, row_form, row_unsound}
+use Rattle.schema.specs.Texts.{BadColumn, line_at, TextFaulty, too_short, header_form, too_large, wrong_length, row_form, row_unsound}
 use Rattle.schema.specs.Verdicts.{SheetFaulty, over_limits, unsound_row, CheckFaulty, sheet_faulty, capped}
 use Rattle.schema.specs.Printing.{Printable}
 

@@ -1,13 +1,12 @@
 -- The web that the code follows leads where the web of the rows leads.
-use Rattle.std.proofs.Common.{◌≡◌, ℕ, zero, suc, ◌+◌, ◌-◌, ◌*◌, ◌/◌, ◌%◌, ◌<◌, ◌≤◌, ◌⊎◌, List, get_or, sym, refl, ap, ◌∙◌, subst, inl, inr, ⊎_elim, arith}
+use Rattle.std.proofs.Common.{◌≡◌, ℕ, zero, suc, ◌+◌, ◌-◌, ◌*◌, ◌/◌, ◌%◌, ◌<◌, ◌≤◌, List, get_or, sym, refl, ap, subst, arith}
 use Rattle.search.specs.Leads.{Leads, stay, go, Joined}
 use Rattle.search.proofs.Trails.{leads_one, leads_both}
 use Rattle.schema.specs.declared.row.Row.{Row}
 use Rattle.schema.specs.declared.descriptions.Descriptions.{Descriptions}
-use Rattle.schema.specs.Masks.{Member}
-use Rattle.schema.specs.Rows.{◌∈◌, AllSound}
+use Rattle.schema.specs.Rows.{AllSound}
 use Rattle.schema.specs.Rules.{S, D, F, P, row, Has, arrow, side}
-use Rattle.schema.specs.Points.{point, Placed, ToClasses, ToNeeds, ToArrows, Ways, up, need, domain, below, along, Onward, Built}
+use Rattle.schema.specs.Points.{point, Placed, Ways, up, need, domain, below, along, Onward, Built}
 use Rattle.schema.specs.Webs.{Description, cls, mark, Link, by_S, by_F, by_D, down, by_P}
 
 pub point_below : (d : Description) → Placed d → point d < 2048

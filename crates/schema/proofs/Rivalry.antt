@@ -8,9 +8,8 @@ use Rattle.schema.specs.declared.row.Row.{Row}
 use Rattle.schema.specs.declared.descriptions.Descriptions.{Descriptions}
 use Rattle.schema.specs.Masks.{Member, Gathers}
 use Rattle.schema.specs.Rows.{◌∈◌, AllSound}
-use Rattle.schema.specs.Rules.{X, F, K, P, row, Has, arrow, side}
-use Rattle.schema.specs.Points.{Built}
-use Rattle.schema.specs.Keys.{keyed, Rival, apart, needs_more, RivalSets, Meet, TornSets}
+use Rattle.schema.specs.Rules.{X, F, K, row, Has, arrow, side}
+use Rattle.schema.specs.Keys.{keyed, Rival, apart, needs_more, RivalSets, TornSets}
 use Rattle.schema.specs.Verdicts.{NoSharedCap}
 use Rattle.schema.specs.Webs.{Description, cls, mark, Link, by_S, by_F, by_D, down, by_P, Apart, by_X, by_K, ArrowLink, Clashing}
 use Rattle.schema.proofs.Building.{row_is, fits_at}

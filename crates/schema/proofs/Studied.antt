@@ -1,5 +1,5 @@
 -- What the marks from a key say of it.
-use Rattle.std.proofs.Common.{◌≡◌, ℕ, ◌+◌, ◌-◌, ◌*◌, ◌/◌, ◌<◌, ◌≤◌, ◌⊎◌, List, length, get_or, set, sym, refl, ap, ◌∙◌, subst, inl, inr, ⊎_elim, arith, get_or-set_other, get_or-set_same}
+use Rattle.std.proofs.Common.{◌≡◌, ℕ, ◌+◌, ◌-◌, ◌/◌, ◌<◌, ◌≤◌, ◌⊎◌, List, length, get_or, set, sym, ap, ◌∙◌, subst, inl, inr, ⊎_elim, arith, get_or-set_other, get_or-set_same}
 use Rattle.std.proofs.lemmas.Bool.{cases_lt}
 use Rattle.search.specs.Leads.{Leads, Marked}
 use Rattle.search.proofs.Trails.{marked_one, marked_leads}
@@ -11,7 +11,7 @@ use Rattle.schema.specs.Rows.{AllSound}
 use Rattle.schema.specs.Points.{Built}
 use Rattle.schema.specs.Keys.{keyed, Forward, Torn, RivalSets, TornSets, ArrowTorn, Known, Surveyed}
 use Rattle.schema.specs.Verdicts.{Bit, NoSharedCap}
-use Rattle.schema.specs.Webs.{Description, cls, mark, Link}
+use Rattle.schema.specs.Webs.{cls, mark, Link}
 use Rattle.schema.proofs.Gather.{gathers_same}
 use Rattle.schema.proofs.KeyReach.{keyed_class, keyed_mark, keys_sound, keys_complete}
 use Rattle.schema.proofs.Rivalry.{sets_clash, clash_sets}

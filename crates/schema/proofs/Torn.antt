@@ -8,7 +8,7 @@ use Rattle.schema.specs.declared.clashes.Points.TheVariants.{ArrowPoints, Descri
 use Rattle.schema.specs.Rows.{◌∈◌, AllSound}
 use Rattle.schema.specs.Rules.{X, K, Q, row, Has}
 use Rattle.schema.specs.Points.{point, Placed}
-use Rattle.schema.specs.Keys.{ArrowReaches, Reaches, apart_points, BothMarked, TornBy}
+use Rattle.schema.specs.Keys.{ArrowReaches, Reaches, TornBy}
 use Rattle.schema.specs.Webs.{Description, cls, mark, Link, down, Apart, by_X, by_K, ArrowLink, ArrowApart, Clashing}
 use Rattle.schema.proofs.Building.{row_is, fits_at}
 use Rattle.schema.proofs.Signs.{bit_one, bit_holds}

@@ -1,10 +1,10 @@
 -- A text tells its counts and rows, and no others.
-use Rattle.std.proofs.Common.{◌≡◌, ℕ, ◌≤◌, max, true, false, cond, eqb, List, [], ◌∷◌, ◌++◌, length, get_or, take, drop, Some, sym, refl, ap, ◌∙◌, inl, inr, arith}
+use Rattle.std.proofs.Common.{◌≡◌, ℕ, ◌≤◌, max, true, false, cond, eqb, List, [], ◌∷◌, length, get_or, take, drop, Some, sym, refl, ap, ◌∙◌, inl, inr, arith}
 use Rattle.schema.specs.declared.row.Row.{Row}
 use Rattle.schema.specs.declared.letters.Kind.{Kind}
 use Rattle.schema.specs.declared.letters.Kind.TheVariants.{Class, Arrow, End}
 use Rattle.schema.specs.declared.letters.Shape.{Shape}
-use Rattle.schema.specs.Rows.{◌∈◌, shapes, shape_in, limit, Fits, Sound, AllSound}
+use Rattle.schema.specs.Rows.{◌∈◌, shapes, shape_in, limit, Fits, Sound}
 use Rattle.schema.specs.Texts.{line, row_line, row_lines, text_of, IsText}
 use Rattle.schema.proofs.Building.{row_is}
 use Rattle.schema.proofs.Groups.{group_same}

@@ -1,10 +1,8 @@
 -- From the bytes of a verdict to the worlds.
 use Rattle.std.proofs.Common.{◌≡◌, ℕ, ◌+◌, ◌<◌, ◌≤◌, eqb, List, length, get_or, take, drop, count_by, inl, inr, arith}
 use Rattle.schema.specs.declared.row.Row.{Row}
-use Rattle.schema.specs.Truth.{Shows}
 use Rattle.schema.specs.Verdicts.{Passes, Bit, Listed}
 use Rattle.schema.specs.Webs.{EmptyClass, EmptyArrow}
-use Rattle.schema.specs.Worlds.{World}
 use Rattle.schema.proofs.Signs.{bit_same}
 use Rattle.schema.proofs.theory.Exactness.{all_told, all_shown}
 

@@ -1,5 +1,5 @@
 -- The rows as they are copied for the checks. For inner contracts: no call's promise rests on it.
-use Rattle.std.specs.Prelude.{◌≡◌, ℕ, ◌<◌, ◌≤◌, ◌⊎◌, List, length, take, Ok, Err, Result, ◌≢◌}
+use Rattle.std.specs.Prelude.{◌≡◌, ℕ, List, length, take, Ok, Err, Result, ◌≢◌}
 use Rattle.schema.specs.declared.row.Row.{Row}
 use Rattle.schema.specs.declared.faults.SheetFault.{SheetFault}
 use Rattle.schema.specs.Masks.{Member}

@@ -12,7 +12,7 @@ use Rattle.schema.specs.declared.row.Row.{Row}
 use Rattle.schema.specs.declared.faults.LineFault.{LineFault}
 use Rattle.schema.specs.declared.faults.LineFault.TheVariants.{Form, UnsoundLine}
 use Rattle.schema.specs.Rows.{Sound, Unsound}
-use Rattle.schema.specs.Texts.{group, line, line_at, row_line, WellFormed, BadColumn, Heads, RowLetter, Writable}
+use Rattle.schema.specs.Texts.{group, line, line_at, row_line, BadColumn, Heads, RowLetter, Writable}
 
 -- the last digit of a number; before the last column of a group nothing is written of 0
 abbrev pub mark : Bool → ℕ → ℕ

@@ -1,4 +1,6 @@
 //! Schemas of classes and arrows: rows, texts, sheets, the checks, the verdict, the question and the report.
+#![tactic(auto)]
+
 mod arrows;
 pub mod book;
 mod checks;

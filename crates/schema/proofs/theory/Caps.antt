@@ -1,9 +1,6 @@
 -- Whether another arrow leads to an arrow, and what it means that no cap stands on such an arrow.
-use Rattle.std.proofs.Common.{◌≡◌, ℕ, ◌<◌, ◌↔◌, List, [], ◌∷◌, map, length, Some, None, refl, subst, inl, inr, ⊎_elim, arith}
+use Rattle.std.proofs.Common.{◌≡◌, ℕ, ◌↔◌, List, [], ◌∷◌, map, refl, subst, inl, inr}
 use native.Mathlib.Decide.{map_dec, ℕ_discrete}
-use Rattle.std.specs.List.{slice_get}
-use Rattle.std.proofs.lemmas.Option.{slice_get_past}
-use Rattle.std.proofs.lemmas.Bool.{cases_lt}
 use Rattle.search.specs.Leads.{Leads, stay, go}
 use Rattle.search.proofs.Trails.{leads_one}
 use Rattle.schema.specs.declared.row.Row.{Row}
@@ -11,7 +8,6 @@ use Rattle.schema.specs.Rows.{◌∈◌}
 use Rattle.schema.specs.Rules.{K, P, row, Has, arrow}
 use Rattle.schema.specs.Webs.{ArrowLink, Alone}
 use Rattle.schema.specs.Verdicts.{NoSharedCap}
-use Rattle.schema.proofs.Members.{at_∈, nth_∈}
 use Rattle.schema.proofs.theory.Deciding.{both?, not?, any?, stable}
 use Rattle.schema.proofs.theory.Telling.{has?}
 

@@ -1,4 +1,4 @@
-use Rattle.std.proofs.Common.{◌≡◌, ℕ, ◌<◌, length, get_or, subst, arith, below_more}
+use Rattle.std.proofs.Common.{get_or, arith, below_more}
 use Rattle.std.proofs.lemmas.Option.{slice_get-get_or}
 use Rattle.schema.specs.declared.row.Row.{Row}
 use Rattle.schema.specs.Verdicts.{CapsShared, capped}

@@ -1,4 +1,4 @@
-use Rattle.std.proofs.Common.{◌≡◌, ℕ, ◌<◌, length, get_or, arith, below_more}
+use Rattle.std.proofs.Common.{arith, below_more}
 use Rattle.schema.specs.declared.row.Row.{Row}
 use Rattle.schema.specs.Keys.{BothMarked}
 use Rattle.schema.proofs.Members.{∈_at, every_∈}

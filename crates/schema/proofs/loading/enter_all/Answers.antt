@@ -1,4 +1,4 @@
-use Rattle.std.proofs.Common.{◌≡◌, ◌<◌, length, sym, ap, ◌∙◌, arith}
+use Rattle.std.proofs.Common.{◌<◌, length, ap, ◌∙◌, arith}
 use Rattle.schema.specs.Columns.{blank_row}
 use Rattle.schema.proofs.Loads.{grown_more, grown_all, grown_room}
 use Rattle.schema.proofs.Members.{not_past}

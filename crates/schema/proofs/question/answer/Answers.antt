@@ -1,4 +1,4 @@
-use Rattle.std.proofs.Common.{ℕ, ◌+◌, ◌*◌, sym, refl, arith}
+use Rattle.std.proofs.Common.{◌+◌, sym, refl, arith}
 use Rattle.schema.specs.Rules.{S, X, D, F, K, P, Q}
 use Rattle.schema.specs.Webs.{cls, mark}
 use Rattle.schema.proofs.Building.{row_is, fits_at}

@@ -1,4 +1,4 @@
-use Rattle.std.proofs.Common.{◌≡◌, ℕ, ◌<◌, ◌≤◌, ◌≢◌, length, get_or, set, sym, subst, arith, length-set, get_or-set_other, get_or-set_same, below_more}
+use Rattle.std.proofs.Common.{◌<◌, ◌≢◌, length, get_or, sym, subst, arith, length-set, get_or-set_other, get_or-set_same, below_more}
 use Rattle.schema.specs.declared.row.Row.{Row}
 use Rattle.schema.specs.Masks.{Gathers}
 use Rattle.schema.specs.Keys.{Rival}

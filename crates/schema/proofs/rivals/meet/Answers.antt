@@ -1,7 +1,7 @@
-use Rattle.std.proofs.Common.{◌≡◌, ℕ, ◌<◌, ◌≤◌, min, ⊎_elim, arith}
+use Rattle.std.proofs.Common.{◌≡◌, ◌<◌, ◌≤◌, ⊎_elim, arith}
 use lib.Bits.{bit_and}
 use Rattle.std.proofs.lemmas.Bool.{cases_lt, lt-ltb, le-ltb}
-use Rattle.schema.specs.Masks.{bit, Member}
+use Rattle.schema.specs.Masks.{bit}
 use Rattle.schema.specs.Keys.{Meet}
 use Rattle.schema.proofs.Bits.{bit_small, bit_and_lem}
 use Rattle.schema.proofs.rivals.meet.Goals as goal

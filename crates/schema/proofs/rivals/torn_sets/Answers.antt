@@ -1,4 +1,4 @@
-use Rattle.std.proofs.Common.{ℕ, ◌<◌, arith, below_more}
+use Rattle.std.proofs.Common.{arith, below_more}
 use Rattle.schema.specs.Keys.{TornSets}
 use Rattle.schema.proofs.rivals.torn_sets.Goals as goal
 use Rattle.schema.proofs.rivals.torn_sets.Goals.{else-meet-via-then-meet+else-has_member, else-meet-via-else-meet}

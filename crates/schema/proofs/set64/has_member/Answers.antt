@@ -1,6 +1,6 @@
-use Rattle.std.proofs.Common.{◌≡◌, ℕ, ◌/◌, ◌%◌, ◌^◌, Bool, true, false, eqb, sym, ap, ◌∙◌, ⊎_elim, zero-add, arith}
+use Rattle.std.proofs.Common.{◌≡◌, ℕ, ◌/◌, ◌%◌, ◌^◌, sym, ap, ◌∙◌, ⊎_elim, zero-add}
 use Rattle.std.proofs.lemmas.Bool.{cases_eq, eq-eqb, ne_eqb}
-use Rattle.schema.specs.Masks.{bit, Member}
+use Rattle.schema.specs.Masks.{bit}
 use Rattle.schema.proofs.Bits.{bit_shift}
 use Rattle.schema.proofs.set64.has_member.Goals as goal
 

@@ -1,8 +1,8 @@
-use Rattle.std.proofs.Common.{◌≡◌, ℕ, ◌*◌, ◌%◌, ◌^◌, ◌≤◌, max, sym, ap, ◌∙◌, inl, inr, ⊎_elim, arith}
+use Rattle.std.proofs.Common.{◌≡◌, ℕ, ◌*◌, ◌%◌, ◌^◌, max, ap, ◌∙◌, inl, inr, ⊎_elim, arith}
 use lib.Bits.{bit_or}
 use Rattle.std.proofs.lemmas.Nat.{one_shl}
 use Rattle.std.proofs.lemmas.Bool.{cases_eq}
-use Rattle.schema.specs.Masks.{bit, Member}
+use Rattle.schema.specs.Masks.{bit}
 use Rattle.schema.proofs.Bits.{bit_small, bit_or_lem, bit_power, bit_power_only}
 use Rattle.schema.proofs.set64.with_member.Goals as goal
 

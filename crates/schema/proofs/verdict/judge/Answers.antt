@@ -1,4 +1,4 @@
-use Rattle.std.proofs.Common.{◌≡◌, ℕ, ◌+◌, ◌-◌, ◌*◌, ◌<◌, ◌≤◌, eqb, get_or, take, count_by, ap, ◌∙◌, arith}
+use Rattle.std.proofs.Common.{◌≡◌, ℕ, ◌+◌, ◌-◌, eqb, get_or, take, count_by, ap, ◌∙◌, arith}
 use Rattle.schema.proofs.Caps.{sound_more}
 use Rattle.schema.proofs.Doom.{class_bit, arrow_bit}
 use Rattle.schema.proofs.Verity.{listed_all}

@@ -1,4 +1,4 @@
-use Rattle.std.proofs.Common.{ℕ, ◌≤◌, ◌⊎◌, get_or, refl, inl, inr, arith}
+use Rattle.std.proofs.Common.{ℕ, ◌⊎◌, get_or, refl, inl, inr, arith}
 use Rattle.schema.specs.declared.descriptions.Descriptions.{Descriptions}
 use Rattle.schema.specs.Points.{ToClasses, ToNeeds, Ways, up, need, domain, below, along}
 use Rattle.schema.proofs.Leasts.{least_either}

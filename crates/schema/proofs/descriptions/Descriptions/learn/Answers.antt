@@ -1,5 +1,4 @@
-use Rattle.std.proofs.Common.{◌≡◌, ℕ, List, [], ◌∷◌, ◌++◌, arith}
-use Rattle.schema.specs.declared.row.Row.{Row}
+use Rattle.std.proofs.Common.{arith}
 use Rattle.schema.proofs.Building.{fits_at, told_more, told_other, needed_other}
 use Rattle.schema.proofs.descriptions.Descriptions.learn.Goals as goal
 

@@ -1,4 +1,4 @@
-use Rattle.std.proofs.Common.{ℕ, arith}
+use Rattle.std.proofs.Common.{arith}
 use Rattle.schema.proofs.Building.{fits_at, told_other, needed_lower, needed_higher}
 use Rattle.schema.proofs.descriptions.Descriptions.learn_need.Goals as goal
 

@@ -1,5 +1,4 @@
-use Rattle.std.proofs.Common.{ℕ, ◌+◌, ◌*◌, ◌<◌, inl, inr, arith}
-use Rattle.schema.specs.Points.{Placed}
+use Rattle.std.proofs.Common.{◌+◌, ◌*◌, inl, inr, arith}
 use Rattle.schema.specs.Webs.{mark}
 use Rattle.schema.proofs.Answering.{tails_part, heads_part, heads_left, tail_placed, head_placed}
 use Rattle.schema.proofs.Signs.{tells_same}

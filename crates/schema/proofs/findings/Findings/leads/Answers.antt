@@ -1,6 +1,5 @@
 use Rattle.std.proofs.Common.{ℕ, get_or, sym, subst, inl}
-use Rattle.search.specs.Leads.{Leads, Marked}
-use Rattle.schema.specs.Points.{Onward, point}
+use Rattle.search.specs.Leads.{Leads}
 use Rattle.schema.specs.Verdicts.{Bit}
 use Rattle.schema.specs.Webs.{Link}
 use Rattle.schema.proofs.Marks.{reaches_from}
