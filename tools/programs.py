@@ -6,7 +6,7 @@ import sys
 
 ROOT = pathlib.Path(__file__).resolve().parent.parent
 REFERENCE = ROOT / "target" / "reference" / "release" / "reference"
-REPORT = ROOT / "target" / "bin" / "report"
+REPORT = ROOT / "crates" / "report" / "out" / "report"
 
 # A report program that has not answered by then never will.
 SECONDS_ALLOWED = 20
