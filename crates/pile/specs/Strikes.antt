@@ -1,6 +1,6 @@
 -- Strike layers.
---   strike_shows   what such a layer shows of the sheet below, by the struck numbers
---   struck_rows    the struck numbers of a layer, in rising order
+--   strike_shows  what such a layer shows of the sheet below, by the struck numbers
+--   struck_rows   the struck numbers of a layer, in rising order
 --   Struck        what striking a row answers and leaves
 --   Restored      what restoring a row answers and leaves
 use Rattle.std.specs.Prelude.{◌≡◌, ℕ, suc, ◌<◌, ◌≤◌, true, false, cond, List, [], ◌∷◌, length, Ok, Err, vec_items, Result}

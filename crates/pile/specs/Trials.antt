@@ -1,6 +1,6 @@
 -- Trial layers.
---   trial_shows    what such a layer shows of the sheet below and its own rows
---   own_rows       the rows of a layer's own
+--   trial_shows   what such a layer shows of the sheet below and its own rows
+--   own_rows      the rows of a layer's own
 --   TrialEntered  what entering a row answers, and the layer's own rows after it
 use Rattle.std.specs.Prelude.{◌≡◌, ℕ, ◌+◌, ◌<◌, ◌≤◌, min, List, [], ◌∷◌, ◌++◌, length, take, Ok, Err, vec_items, Result}
 use Rattle.std.proofs.Common.{ap, ◌∙◌, arith, length-take, length-append}

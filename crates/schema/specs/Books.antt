@@ -1,5 +1,5 @@
 -- Books.
---   book_shows     what a book shows: its capacity is always 384
+--   book_shows    what a book shows: its capacity is always 384
 --   unset         a book that is not yet set up
 --   SetUp         what setting up answers and leaves
 use Rattle.std.specs.Prelude.{◌≡◌, ℕ, ◌<◌, ◌≤◌, ◌⊎◌, [], Ok, Err, vec_items, Result}

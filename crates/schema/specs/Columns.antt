@@ -3,7 +3,7 @@
 --   Strays        the first column, from 0, at which nothing of a form begins alike
 --   Group, Tail   the forms of a group, and of a line after its letter
 --   tail          such a line after its letter
---   head_line      the line of a header
+--   head_line     the line of a header
 --   LineFaulty    why a row's line is refused
 --   Headed        a text that passes the checks before those of its rows
 --   RowsRead      what the lines of the first rows say

@@ -1,6 +1,6 @@
 -- The report on a sheet. For inner contracts: no call's promise rests on it.
---   SheetReport   its bytes
---   SheetReported        what writing it answers and leaves
+--   SheetReport    its bytes
+--   SheetReported  what writing it answers and leaves
 use Rattle.std.specs.Prelude.{ℕ, ◌<◌, List}
 use Rattle.schema.specs.declared.faults.CheckFault.{CheckFault}
 use Rattle.schema.specs.Printing.{listing, Begun}

@@ -1,6 +1,6 @@
 -- Printing. For inner contracts: no call's promise rests on it.
 --   spliced       a list written over another, from a place on
---   ones_from      where the bytes that are 1 stand
+--   ones_from     where the bytes that are 1 stand
 --   listing       the report that lists classes and arrows
 --   Printable     a notice whose numbers have four columns at most
 --   Begun         a text written over the first bytes

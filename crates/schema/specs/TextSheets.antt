@@ -1,5 +1,5 @@
 -- Sheets that were read from a text.
---   text_shows     what such a sheet shows; its capacity is the number of its rows
+--   text_shows    what such a sheet shows; its capacity is the number of its rows
 --   TextRead      it shows what the text tells
 --   TextShown     it shows what the text tells, or nothing where the text is refused
 use Rattle.std.specs.Prelude.{◌≡◌, ℕ, List, [], length, take}

@@ -3,7 +3,7 @@
 --   line          a letter, three groups and a line feed: 14 bytes
 --   WellFormed    a line that begins with one of some letters
 --   BadColumn     where a line is out of form
---   text_of        the text of a sheet: a header line and a line for each row
+--   text_of       the text of a sheet: a header line and a line for each row
 --   IsText        a text that is accepted, with its counts and rows
 --   TextFaulty    why a text is refused: the first fault in the order of the checks
 use Rattle.std.specs.Prelude.{◌≡◌, ℕ, zero, suc, ◌+◌, ◌-◌, ◌*◌, ◌/◌, ◌%◌, ◌<◌, ◌≤◌, true, cond, ◌⊎◌, List, [], ◌∷◌, ◌++◌, length, take, drop, is_some, ◌==◌, ◌≢◌}
