@@ -1,4 +1,8 @@
+pub mod Grown
+pub mod Looked
 pub mod Rising
 pub mod Shows
+pub mod Steps
 pub mod Taken
+pub mod Truly
 pub mod Walks

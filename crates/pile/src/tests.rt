@@ -1,5 +1,7 @@
-//! Layers at their limits.
+//! Layers at their limits, and a life.
 use crate::faults::{RestoreFault, StrikeFault};
+use crate::pile::life::live;
+use crate::request::{Answer, Call, Look, Request};
 use crate::strike::Strike;
 use crate::trial::Trial;
 use schema::book::Book;
@@ -67,5 +69,41 @@ fn struck_rows(rt: HostRuntime) -> Result<(), Fail> {
     assert_eq!(rt; layer.below.set_up(4, 2).is_ok(), true);
     assert_eq!(rt; layer.len(), 0);
     assert_eq!(rt; layer.restore(33), Ok(()));
+    Ok(())
+}
+
+// Texts are loaded into a book and into a trial above it, and a row is struck above both.
+#[test]
+fn whole_life(rt: HostRuntime) -> Result<(), Fail> {
+    let mut book = Book::new(rt.alloc())?;
+    assert!(rt; book.set_up(4, 2).is_ok());
+    let mut requests = Vec::new(rt.alloc());
+    let low = b"H   4   2   1\nS   0   1   0\n".to_vec(rt.alloc())?;
+    requests.push(Request {
+        part: 0,
+        call: Call::Load(low),
+    })?;
+    let high = b"H   3   1   2\nS   1   2   0\nS   2   0   0\n".to_vec(rt.alloc())?;
+    requests.push(Request {
+        part: 1,
+        call: Call::Load(high),
+    })?;
+    requests.push(Request {
+        part: 3,
+        call: Call::Strike(1),
+    })?;
+    requests.push(Request {
+        part: 4,
+        call: Call::Look(Look::Len),
+    })?;
+    let (pile, answers) = live::<Strike<Trial<Trial<Book>>>>(rt.alloc(), book, requests)?;
+    assert_eq!(rt; answers.len(), 4);
+    assert!(rt; matches!(answers.get(0), Some(Answer::Loaded(Ok(()), _))));
+    assert!(rt; matches!(answers.get(2), Some(Answer::Struck(Ok(())))));
+    assert!(rt; matches!(answers.get(3), Some(Answer::NoPart(_))));
+    assert_eq!(rt; pile.below.len(), 3);
+    assert_eq!(rt; pile.row(0), Some(row(0, 1)));
+    assert_eq!(rt; pile.row(1), Some(row(2, 0)));
+    assert_eq!(rt; pile.row(2), None);
     Ok(())
 }

@@ -1,6 +1,9 @@
--- From the bytes of a verdict to the worlds.
-use Rattle.std.proofs.Common.{◌≡◌, ℕ, ◌+◌, ◌<◌, ◌≤◌, eqb, List, length, get_or, take, drop, count_by, inl, inr, arith}
+-- From the bytes of a verdict to the worlds, and what verdicts and questions promise of them.
+use Rattle.std.proofs.Common.{◌≡◌, ℕ, ◌+◌, ◌<◌, ◌≤◌, eqb, List, length, get_or, take, drop, count_by, subst, inl, inr, arith}
 use Rattle.schema.specs.declared.row.Row.{Row}
+use Rattle.schema.specs.Promises.{TrueOf}
+use Rattle.schema.specs.Rows.{Sound}
+use Rattle.schema.specs.Sheets.{Shown}
 use Rattle.schema.specs.Verdicts.{Passes, Bit, Listed}
 use Rattle.schema.specs.Webs.{EmptyClass, EmptyArrow}
 use Rattle.schema.proofs.Signs.{bit_same}
@@ -33,3 +36,22 @@ listed_all c p rows before ones after ok room classes arrows later counted =
       later = later;
       counted = counted;
     }
+
+-- whatever a sheet shows, verdicts and questions tell what is so in all worlds
+pub true_of : (s : Shown) → TrueOf s
+true_of s = record {
+  listed = λ before after ones v. record { classes = v.class_everywhere; arrows = v.arrow_everywhere };
+  answered = λ asked answer a. (a.rule, a.writes, a.everywhere);
+  one_world =
+      λ ok.
+      let one = all_shown s.classes s.arrows s.rows ok in (
+        one.0,
+        record {
+          shows = one.1;
+          fills =
+              λ before after ones v.
+              record { classes = λ k l z. one.1.class_filled k l (bit_not (v.class_bytes k l) z); arrows = λ k l z. one.1.arrow_filled k l (bit_not (v.arrow_bytes k l) z) };
+          breaks = λ asked a. (a.rule, a.writes, one.1.rule_broken a.rule (subst (Sound s.classes s.arrows) a.writes a.sound) a.countable a.told);
+        },
+      );
+}

@@ -12,6 +12,7 @@ pub mod TextSheets
 pub mod Loading
 pub mod Prints
 pub mod Verdicts
+pub mod Promises
 pub mod Reports
 pub mod Refusals
 pub mod Columns

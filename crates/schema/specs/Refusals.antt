@@ -5,6 +5,8 @@ use Rattle.schema.specs.declared.faults.SetUpFault.{SetUpFault}
 use Rattle.schema.specs.declared.faults.SetUpFault.TheVariants.{TooMany}
 use Rattle.schema.specs.declared.faults.EnterFault.{EnterFault}
 use Rattle.schema.specs.declared.faults.EnterFault.TheVariants.{Full}
+use Rattle.schema.specs.declared.faults.AmendFault.{AmendFault}
+use Rattle.schema.specs.declared.faults.AmendFault.TheVariants.{NoRow}
 use Rattle.schema.specs.declared.faults.LineFault.{LineFault}
 use Rattle.schema.specs.declared.faults.LineFault.TheVariants.{Form, UnsoundLine}
 use Rattle.schema.specs.declared.faults.TextFault.{TextFault}
@@ -34,6 +36,9 @@ set_up_notice TooMany = notice 1 0 0
 
 abbrev pub enter_notice : EnterFault → Notice
 enter_notice Full = notice 2 0 0
+
+abbrev pub amend_notice : AmendFault → Notice
+amend_notice NoRow = notice 3 0 0
 
 -- the line and the column, or the line and the field
 abbrev pub line_notice : LineFault → Notice

@@ -3,7 +3,7 @@
 --   limit         how many classes, arrows or ends there are
 --   Sound         every field of a row is sound
 --   Unsound       the lowest unsound field of a row: 1 letter, 2 a, 3 b, 4 n
---   _∈_           one of a list
+--   ◌∈◌           one of a list
 --   AllSound      every row of a list is sound
 use Rattle.std.specs.Prelude.{◌≡◌, ℕ, ◌*◌, ◌<◌, ◌≤◌, cond, ◌⊎◌, List, [], ◌∷◌, Some, None, Option, ◌==◌}
 use Rattle.schema.specs.declared.row.Row.{Row}

@@ -1,6 +1,6 @@
 //! Why a call was refused: one case for each refusal, its number, and the places it names.
 ghost use Rattle.std.specs.Prelude.{◌≡◌};
-ghost use Rattle.schema.specs.Refusals.{set_up_notice, enter_notice, line_notice, text_notice, load_notice, sheet_notice, check_notice, verdict_notice, question_notice, report_notice, print_notice, reprint_notice};
+ghost use Rattle.schema.specs.Refusals.{set_up_notice, enter_notice, amend_notice, line_notice, text_notice, load_notice, sheet_notice, check_notice, verdict_notice, question_notice, report_notice, print_notice, reprint_notice};
 ghost use Rattle.schema.specs.declared.faults.LineFault.TheVariants.{Form};
 ghost use Rattle.schema.specs.declared.faults.TextFault.TheVariants.{Line};
 ghost use Rattle.schema.specs.declared.faults.LoadFault.TheVariants.{Text};
@@ -28,6 +28,12 @@ pub enum SetUpFault {
 #[derive(Clone, Copy, PartialEq, Eq, Debug)]
 pub enum EnterFault {
     Full,
+}
+
+/// Why a row was not amended.
+#[derive(Clone, Copy, PartialEq, Eq, Debug)]
+pub enum AmendFault {
+    NoRow,
 }
 
 /// Where a line is out of form: the first column at which no well-formed line begins alike.
@@ -206,6 +212,16 @@ impl EnterFault {
     {
         match *self {
             EnterFault::Full => bare(2),
+        }
+    }
+}
+
+impl AmendFault {
+    pub fn notice(&self) -> Notice
+        ensures { result ≡ amend_notice self.now }
+    {
+        match *self {
+            AmendFault::NoRow => bare(3),
         }
     }
 }

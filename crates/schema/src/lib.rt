@@ -26,6 +26,7 @@ mod round_trips;
 pub mod row;
 mod set64;
 pub mod sheet;
+mod table;
 #[cfg(test)]
 mod tests;
 pub mod text;

@@ -1,6 +1,6 @@
 //! Loading a text into a sheet.
 ghost use Rattle.std.specs.Prelude.{◌≡◌, ◌+◌, ◌≤◌, ◌++◌, length};
-ghost use Rattle.schema.specs.Loading.{Loaded};
+ghost use Rattle.schema.specs.Loading.{Admitted, Loaded};
 ghost use Rattle.schema.specs.Sheets.{with_rows};
 
 use crate::faults::LoadFault;
@@ -11,6 +11,15 @@ use crate::text_sheet::TextSheet;
 pub fn load<S: Sheet>(sheet: &mut S, text: &[u8]) -> Result<(), LoadFault>
     ensures { Loaded (S.Sheet.shows sheet.old) text.now result (S.Sheet.shows sheet.new) }
 {
+    let told = admit(&*sheet, text)?;
+    enter_all(sheet, &told);
+    Ok(())
+}
+
+/// What a text tells, where all of it may be loaded into a sheet.
+pub fn admit<S: Sheet>(sheet: &S, text: &[u8]) -> Result<TextSheet, LoadFault>
+    ensures { Admitted (S.Sheet.shows sheet.now) text.now result }
+{
     let told = TextSheet::read(text)?;
     if told.classes() > sheet.classes() || told.arrows() > sheet.arrows() {
         return Err(LoadFault::MoreNames);
@@ -18,8 +27,7 @@ pub fn load<S: Sheet>(sheet: &mut S, text: &[u8]) -> Result<(), LoadFault>
     if sheet.len() + told.len() > sheet.capacity() {
         return Err(LoadFault::NoRoom);
     }
-    enter_all(sheet, &told);
-    Ok(())
+    Ok(told)
 }
 
 // Enters the rows of another sheet, for which there is room.

@@ -1,12 +1,13 @@
-//! Making a book, setting it up, and what it shows.
+//! Making a book, setting it up, amending it, and what it shows.
 ghost use Rattle.std.specs.Prelude.{◌≡◌, [], IfOk};
-ghost use Rattle.schema.specs.Books.{SetUp, book_bounded, book_shows, unset};
+ghost use Rattle.schema.specs.Books.{Amended, SetUp, book_bounded, book_shows, unset};
 
 use super::Book;
-use crate::faults::{EnterFault, SetUpFault};
+use crate::faults::{AmendFault, EnterFault, SetUpFault};
 use crate::limits::{MOST_ARROWS, MOST_CLASSES};
 use crate::row::Row;
 use crate::sheet::Sheet;
+use crate::table::Table;
 use std::alloc::{AllocError, Global};
 
 /// The capacity of every book.
@@ -21,7 +22,7 @@ impl Book {
         Ok(Book {
             classes: 0,
             arrows: 0,
-            rows,
+            table: Table { rows },
         })
     }
 
@@ -32,10 +33,23 @@ impl Book {
         if classes > MOST_CLASSES || arrows > MOST_ARROWS {
             return Err(SetUpFault::TooMany);
         }
-        self.rows.clear();
+        self.table.rows.clear();
         self.classes = classes;
         self.arrows = arrows;
         Ok(())
+    }
+
+    /// Replaces row k, where there is one.
+    pub fn amend(&mut self, k: usize, row: Row) -> Result<(), AmendFault>
+        ensures { Amended (book_shows self.old) k row result (book_shows self.new) }
+    {
+        match self.table.row_mut(k) {
+            Some(old) => {
+                *old = row;
+                Ok(())
+            }
+            None => Err(AmendFault::NoRow),
+        }
     }
 }
 
@@ -57,18 +71,18 @@ impl Sheet for Book {
     }
 
     fn len(&self) -> usize {
-        self.rows.len()
+        self.table.rows.len()
     }
 
     fn row(&self, k: usize) -> Option<Row> {
-        self.rows.get(k).copied()
+        self.table.rows.get(k).copied()
     }
 
     fn enter(&mut self, row: Row) -> Result<(), EnterFault> {
-        if self.rows.len() >= BOOK_ROWS {
+        if self.table.rows.len() >= BOOK_ROWS {
             return Err(EnterFault::Full);
         }
-        self.rows.push_reserved(row);
+        self.table.rows.push_reserved(row);
         Ok(())
     }
 }

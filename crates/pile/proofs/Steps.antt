@@ -1,0 +1,84 @@
+-- One call on a part of a pile, from what the calls of the parts ensure.
+use Rattle.std.proofs.Common.{◌≡◌, ℕ, ◌+◌, ◌<◌, ◌≤◌, min, Bool, List, [], ◌∷◌, ◌++◌, length, Ok, Err, Result, refl, subst, arith}
+use Rattle.schema.specs.declared.row.Row.{Row}
+use Rattle.schema.specs.declared.faults.EnterFault.{EnterFault}
+use Rattle.schema.specs.declared.faults.EnterFault.TheVariants.{Full}
+use Rattle.schema.specs.Sheets.{Shown}
+use Rattle.pile.specs.declared.faults.RestoreFault.{RestoreFault}
+use Rattle.pile.specs.declared.faults.StrikeFault.{StrikeFault}
+use Rattle.pile.specs.declared.request.Answer.{Answer}
+use Rattle.pile.specs.declared.request.Answer.TheVariants as answer
+use Rattle.pile.specs.declared.request.Call.{Call}
+use Rattle.pile.specs.declared.request.Call.TheVariants as call
+use Rattle.pile.specs.declared.request.Look.{Look}
+use Rattle.pile.specs.declared.request.Request.{Request}
+use Rattle.pile.specs.declared.request.Sight.{Sight}
+use Rattle.pile.specs.Lives.{Sees, Entering, AtTop, Step, Moment, Life, WholeLife, withdrawn, struck, restored, seen, here, below, no_part, begun, lived}
+use Rattle.pile.specs.Plain.{Plain, Layer, Kind, fresh, trial, strike, over, top, shown_by}
+use Rattle.pile.specs.Strikes.{Struck, Restored}
+use Rattle.pile.specs.Trials.{trial_shows, TrialEntered}
+
+-- a call told by an equation
+pub called : {p q : Plain} {c d : Call} {a : Answer} → c ≡ d → AtTop p d a q → AtTop p c a q
+called e h = rw e h
+
+-- a row entered into a trial
+pub trial_put : (p q : Plain) (s : Shown) (own after : List Row) (row : Row) (r : Result Unit EnterFault) → s ≡ top p → q ≡ p
+    → TrialEntered s own row r after → Entering (over (trial own) p) row r (over (trial after) q)
+trial_put p q s own after row (Ok u) t same h =
+    let k = subst (λ (v : Shown). length (trial_shows v own).rows < (trial_shows v own).capacity) t h.0 in
+    rw (same, h.1) (k, refl)
+trial_put p q s own after row (Err Full) t same h =
+    let k = subst (λ (v : Shown). (trial_shows v own).capacity ≤ length (trial_shows v own).rows) t h.0 in
+    rw (same, h.1) (k, refl)
+
+-- a trial's rows withdrawn
+pub trial_withdrawn : (p q : Plain) (own after : List Row) (n : ℕ) → n ≡ length own → after ≡ [] → q ≡ p
+    → AtTop (over (trial own) p) call.Withdraw (answer.Withdrawn n) (over (trial after) q)
+trial_withdrawn p q own after n e f same = rw (e, f, same) withdrawn
+
+-- a row struck
+pub row_struck : (p q : Plain) (s : Shown) (before after : List ℕ) (k : ℕ) (r : Result Unit StrikeFault) → s ≡ top p → q ≡ p → Struck s before k r after
+    → AtTop (over (strike before) p) (call.Strike k) (answer.Struck r) (over (strike after) q)
+row_struck p q s before after k r t same h = rw same (struck (subst (λ (v : Shown). Struck v before k r after) t h))
+
+-- a row restored
+pub row_restored : (p q : Plain) (before after : List ℕ) (k : ℕ) (r : Result Unit RestoreFault) → q ≡ p → Restored before k r after
+    → AtTop (over (strike before) p) (call.Restore k) (answer.Restored r) (over (strike after) q)
+row_restored p q before after k r same h = rw same (restored h)
+
+-- a look at a layer
+pub layer_seen : (p : Plain) (l : Layer) (s : Shown) (look : Look) (sight : Sight) → s ≡ top p → Sees (shown_by l s) look sight
+    → AtTop (over l p) (call.Look look) (answer.Seen sight) (over l p)
+layer_seen p l s look sight t h = seen (subst (λ (v : Shown). Sees (shown_by l v) look sight) t h)
+
+-- a call on the top part, counted from the lowest
+pub at_part : {p q : Plain} {part : ℕ} {c : Call} {a : Answer} → part ≡ length p.layers → AtTop p c a q → Step p part c a q
+at_part e h = rw e (here h)
+
+-- the part is the top layer: the code tells it by the number of layers below
+pub at_layer : (p : Plain) (l : Layer) (q : Plain) (n part : ℕ) (c : Call) (a : Answer) → n ≡ min (length p.layers) 18446744073709551615 → n < part
+    → part ≤ 18446744073709551615 → part ≤ n + 1 → AtTop (over l p) c a q → Step (over l p) part c a q
+at_layer p l q n part c a e b f u h = at_part (omega arith) h
+
+-- the part lies below
+pub at_below : (p q : Plain) (l : Layer) (n part : ℕ) (c : Call) (a : Answer) → n ≡ min (length p.layers) 18446744073709551615 → part ≤ n
+    → Step p part c a q → Step (over l p) part c a (over l q)
+at_below p q l n part c a e b s = below (omega arith) s
+
+-- there is no such part
+pub at_none : (p : Plain) (l : Layer) (n part : ℕ) (c : Call) → n ≡ min (length p.layers) 18446744073709551615 → n + 1 < part
+    → part ≤ 18446744073709551615 → Step (over l p) part c (answer.NoPart c) (over l p)
+at_none p l n part c e b f = no_part (omega arith)
+
+-- one more call at the end of a life
+pub life_more : {P : Type 0} {plain : P → Plain} {shown : P → List Shown} {p q r : P} {c : Request} {a : Answer} {cs : List Request} {rest : List Answer}
+    → Life P plain shown p cs rest q → Step (plain q) c.part c.call a (plain r) → Moment (plain r) (shown r) → Life P plain shown p (cs ++ c ∷ []) (rest ++ a ∷ []) r
+life_more (begun m) s n = lived m s (begun n)
+life_more (lived m t h) s n = lived m t (life_more h s n)
+
+-- a life whose calls are all those that were asked for
+pub life_whole : {P : Type 0} {plain : P → Plain} {shown : P → List Shown} {first last : P} {lowest : Shown} {book : Bool} {kinds : List Kind} {cs all : List Request} {answers : List Answer}
+    → plain first ≡ fresh lowest book kinds → cs ≡ all → Life P plain shown first cs answers last → WholeLife P plain shown lowest book kinds all answers last
+life_whole {P} {plain} {shown} {first} {last} {answers = answers} new e h =
+    record { first = first; new = new; life = subst (λ (xs : List Request). Life P plain shown first xs answers last) e h }

@@ -1,0 +1,98 @@
+//! Any sheet but a book as the lowest sheet of a pile.
+ghost use Rattle.std.specs.Prelude.{false, []};
+ghost use Rattle.pile.specs.Plain.{alone};
+ghost use Rattle.std.proofs.Common.{rules};
+
+use super::Pile;
+use crate::loading::load_text;
+use crate::looks::see;
+use crate::part::Part;
+use crate::request::{Answer, Call};
+use schema::faults::EnterFault;
+use schema::row::Row;
+use schema::sheet::Sheet;
+use std::alloc::{AllocError, Global};
+
+/// Any sheet but a book, as the lowest of a pile.
+#[derive(Drop)]
+pub struct Base<S> {
+    pub sheet: S,
+}
+
+impl<S: Sheet> Sheet for Base<S> {
+    ghost shows = { λ b. S.Sheet.shows b.sheet };
+
+    ghost bounded = { λ b. S.Sheet.bounded b.sheet };
+
+    fn classes(&self) -> u16 {
+        self.sheet.classes()
+    }
+
+    fn arrows(&self) -> u16 {
+        self.sheet.arrows()
+    }
+
+    fn capacity(&self) -> usize {
+        self.sheet.capacity()
+    }
+
+    fn len(&self) -> usize {
+        self.sheet.len()
+    }
+
+    fn row(&self, k: usize) -> Option<Row> {
+        self.sheet.row(k)
+    }
+
+    fn enter(&mut self, row: Row) -> Result<(), EnterFault> {
+        self.sheet.enter(row)
+    }
+}
+
+impl<S: Sheet> Part for Base<S> {
+    ghost plain = { λ b. alone (S.Sheet.shows b.sheet) false };
+
+    ghost under = { λ _. [] };
+
+    ghost agrees = { Prim.search rules };
+
+    fn height(&self) -> usize {
+        0
+    }
+
+    fn put(&mut self, row: Row) -> Result<(), EnterFault> {
+        self.sheet.enter(row)
+    }
+}
+
+impl<S: Sheet> Pile for Base<S> {
+    type Lowest = S;
+
+    ghost kinds = { [] };
+
+    ghost book = { false };
+
+    fn raise(_heap: Global, lowest: S) -> Result<Base<S>, AllocError> {
+        Ok(Base { sheet: lowest })
+    }
+
+    fn answer(&mut self, call: Call) -> Answer {
+        match call {
+            Call::Enter(row) => Answer::Entered(self.put(row)),
+            Call::Amend(k, row) => Answer::NotHere(Call::Amend(k, row)),
+            Call::Withdraw => Answer::NotHere(Call::Withdraw),
+            Call::Strike(k) => Answer::NotHere(Call::Strike(k)),
+            Call::Restore(k) => Answer::NotHere(Call::Restore(k)),
+            Call::Load(text) => load_text(self, text),
+            Call::Look(look) => Answer::Seen(see(&self.sheet, look)),
+        }
+    }
+
+    fn call(&mut self, part: usize, call: Call) -> Answer {
+        if part > 0 {
+            Answer::NoPart(call)
+        } else {
+            self.answer(call)
+        }
+    }
+}

@@ -1,0 +1,64 @@
+//! A book as the lowest sheet of a pile.
+ghost use Rattle.std.specs.Prelude.{true, []};
+ghost use Rattle.schema.specs.Books.{book_shows};
+ghost use Rattle.pile.specs.Plain.{alone};
+ghost use Rattle.std.proofs.Common.{rules};
+
+use super::Pile;
+use crate::loading::load_text;
+use crate::looks::see;
+use crate::part::Part;
+use crate::request::{Answer, Call};
+use schema::book::Book;
+use schema::faults::EnterFault;
+use schema::row::Row;
+use schema::sheet::Sheet;
+use std::alloc::{AllocError, Global};
+
+impl Part for Book {
+    ghost plain = { λ b. alone (book_shows b) true };
+
+    ghost under = { λ _. [] };
+
+    ghost agrees = { Prim.search rules };
+
+    fn height(&self) -> usize {
+        0
+    }
+
+    fn put(&mut self, row: Row) -> Result<(), EnterFault> {
+        self.enter(row)
+    }
+}
+
+impl Pile for Book {
+    type Lowest = Book;
+
+    ghost kinds = { [] };
+
+    ghost book = { true };
+
+    fn raise(_heap: Global, lowest: Book) -> Result<Book, AllocError> {
+        Ok(lowest)
+    }
+
+    fn answer(&mut self, call: Call) -> Answer {
+        match call {
+            Call::Enter(row) => Answer::Entered(self.put(row)),
+            Call::Amend(k, row) => Answer::Amended(self.amend(k, row)),
+            Call::Withdraw => Answer::NotHere(Call::Withdraw),
+            Call::Strike(k) => Answer::NotHere(Call::Strike(k)),
+            Call::Restore(k) => Answer::NotHere(Call::Restore(k)),
+            Call::Load(text) => load_text(self, text),
+            Call::Look(look) => Answer::Seen(see(&*self, look)),
+        }
+    }
+
+    fn call(&mut self, part: usize, call: Call) -> Answer {
+        if part > 0 {
+            Answer::NoPart(call)
+        } else {
+            self.answer(call)
+        }
+    }
+}
