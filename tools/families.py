@@ -231,6 +231,34 @@ def chain_text(rng, classes=MOST_CLASSES, arrows=MOST_ARROWS, rows=MOST_ROWS):
     return text(classes, arrows, made)
 
 
+def some_count(rng, most):
+    """Often the most, often few, and otherwise anything."""
+    return rng.choice([most, rng.randint(0, most), rng.randint(0, most // 4), rng.randint(0, 8)])
+
+
+def sized_text(rng):
+    """A sound text of any of the families and of any size."""
+    make_text = rng.choice([random_text, random_text, sparse_text, small_text, dense_text, chain_text])
+    return make_text(
+        rng,
+        classes=some_count(rng, MOST_CLASSES),
+        arrows=some_count(rng, MOST_ARROWS),
+        rows=some_count(rng, MOST_ROWS),
+    )
+
+
+def varied_text(rng):
+    """Any text: sound, refused or no text at all."""
+    way = rng.random()
+    if way < 0.4:
+        return small_text(rng)
+    if way < 0.7:
+        return sized_text(rng)
+    if way < 0.8:
+        return damage(rng, sized_text(rng))
+    return broken_text(rng) if way < 0.9 else unsound_text(rng)
+
+
 def base_text(rng):
     way = rng.random()
     if way < 0.8:
