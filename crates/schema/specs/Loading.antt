@@ -8,7 +8,7 @@ use Rattle.schema.specs.declared.faults.LoadFault.{LoadFault}
 use Rattle.schema.specs.declared.faults.LoadFault.TheVariants.{Text, MoreNames, NoRoom}
 use Rattle.schema.specs.declared.text_sheet.TextSheet.{TextSheet}
 use Rattle.schema.specs.Sheets.{Shown, with_rows}
-use Rattle.schema.specs.TextSheets.{text_shows}
+use Rattle.schema.specs.TextSheets.{text_shows, TextRead}
 use Rattle.schema.specs.Texts.{IsText, TextFaulty}
 
 pub record Named (s : Shown) (text : List ℕ) (c p : ℕ) (rows : List Row) : Type 0 where
@@ -29,5 +29,6 @@ Loaded s text (Err NoRoom) t =
 -- refused, it is for the reason for which loading is, which leaves the sheet
 abbrev pub Admitted : Shown → List ℕ → Result TextSheet LoadFault → Type 0
 Admitted s text (Ok t) =
-    Named s text (text_shows t).classes (text_shows t).arrows (text_shows t).rows × (length s.rows + length (text_shows t).rows ≤ s.capacity)
+    TextRead text (text_shows t) × Named s text (text_shows t).classes (text_shows t).arrows (text_shows t).rows
+    × (length s.rows + length (text_shows t).rows ≤ s.capacity)
 Admitted s text (Err f) = Loaded s text (Err f) s

@@ -16,7 +16,7 @@ returns-in_err-told g c =
 pub put_all-requires : goal.put_all-requires
 put_all-requires g c =
     let rows = (text_shows c.in_ok-told.told).rows in
-    subst (λ (s : Shown). length s.rows + length rows ≤ s.capacity) (shows_top (g.P.Part.plain c.args.part.now) (g.met.P.Part.agrees c.args.part.now)) c.in_ok-told.ensures.1
+    subst (λ (s : Shown). length s.rows + length rows ≤ s.capacity) (shows_top (g.P.Part.plain c.args.part.now) (g.met.P.Part.agrees c.args.part.now)) c.in_ok-told.ensures.2
 
 pub returns : goal.returns
 returns g c =
@@ -25,7 +25,7 @@ returns g c =
       (text_shows c.in_ok-told.told).classes,
       (text_shows c.in_ok-told.told).arrows,
       rows,
-      subst (λ (s : Shown). Named s c.args.text.now (text_shows c.in_ok-told.told).classes (text_shows c.in_ok-told.told).arrows rows) there c.in_ok-told.ensures.0,
-      subst (λ (s : Shown). length s.rows + length rows ≤ s.capacity) there c.in_ok-told.ensures.1,
+      subst (λ (s : Shown). Named s c.args.text.now (text_shows c.in_ok-told.told).classes (text_shows c.in_ok-told.told).arrows rows) there c.in_ok-told.ensures.1,
+      subst (λ (s : Shown). length s.rows + length rows ≤ s.capacity) there c.in_ok-told.ensures.2,
       c.put_all.ensures,
     )
