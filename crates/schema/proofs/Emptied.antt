@@ -3,10 +3,9 @@ use Rattle.std.proofs.Common.{ℕ, ◌+◌, ◌<◌, ◌⊎◌, List, sym, subst
 use Rattle.search.specs.Leads.{Leads, stay}
 use Rattle.search.proofs.Trails.{leads_both}
 use Rattle.schema.specs.declared.row.Row.{Row}
-use Rattle.schema.specs.declared.clashes.Points.TheVariants.{DescriptionPoints}
 use Rattle.schema.specs.Rows.{AllSound}
 use Rattle.schema.specs.Points.{Placed}
-use Rattle.schema.specs.Keys.{Reaches, TornBy, keyed, EmptyKeys}
+use Rattle.schema.specs.Keys.{descriptions_apart, Reaches, TornBy, keyed, EmptyKeys}
 use Rattle.schema.specs.Found.{MarkedEmpty}
 use Rattle.schema.specs.Webs.{Description, mark, Link, Apart, Clashing, Name, desc, arr, Empty, clash, leads, clash_arrow, of_end, of_arrow}
 use Rattle.schema.proofs.Reach.{leads_placed}
@@ -44,7 +43,7 @@ module _ (rows : List Row) (sound : AllSound 64 32 rows) where
 
   module _ (d : Description) (marks empty : List ℕ) (told : Reaches rows d marks) (keys : EmptyKeys rows empty) where
     -- where two marked descriptions clash, the start is empty
-    pub torn_empties : TornBy DescriptionPoints rows marks marks → Empty rows (desc d)
+    pub torn_empties : TornBy descriptions_apart rows marks marks → Empty rows (desc d)
     torn_empties t = clash (torn_clashes rows sound d d marks marks told told t)
 
     -- and where a key that is empty is marked
@@ -53,7 +52,7 @@ module _ (rows : List Row) (sound : AllSound 64 32 rows) where
         leads (bit_one (told (keyed m.key) (keyed_placed m.key m.small)) m.marked) (bit_one (keys m.key m.small) m.is)
 
     -- an empty start has one or the other
-    pub empty_marked : Placed d → Empty rows (desc d) → TornBy DescriptionPoints rows marks marks ⊎ MarkedEmpty marks empty
+    pub empty_marked : Placed d → Empty rows (desc d) → TornBy descriptions_apart rows marks marks ⊎ MarkedEmpty marks empty
     empty_marked h z =
         ⊎_elim (λ c. inl (clashes_torn rows sound d d marks marks told told c))
         (λ w. inr (record { key = w.0; small = w.1; marked = bit_holds (told (keyed w.0) (keyed_placed w.0 w.1)) w.2; is = bit_holds (keys w.0 w.1) w.3 }))

@@ -15,6 +15,7 @@ pub mod LineParts
 pub mod Loads
 pub mod Marks
 pub mod Members
+pub mod Anys
 pub mod Names
 pub mod Nths
 pub mod Ones

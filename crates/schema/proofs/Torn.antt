@@ -4,11 +4,10 @@ use Rattle.std.proofs.lemmas.Bool.{cases_lt, eqb-true}
 use Rattle.search.specs.Leads.{Leads}
 use Rattle.search.proofs.Trails.{leads_then}
 use Rattle.schema.specs.declared.row.Row.{Row}
-use Rattle.schema.specs.declared.clashes.Points.TheVariants.{ArrowPoints, DescriptionPoints}
 use Rattle.schema.specs.Rows.{◌∈◌, AllSound}
 use Rattle.schema.specs.Rules.{X, K, Q, row, Has}
 use Rattle.schema.specs.Points.{point, Placed}
-use Rattle.schema.specs.Keys.{ArrowReaches, Reaches, TornBy}
+use Rattle.schema.specs.Keys.{arrows_apart, descriptions_apart, ArrowReaches, Reaches, TornBy}
 use Rattle.schema.specs.Webs.{Description, cls, mark, Link, down, Apart, by_X, by_K, ArrowLink, ArrowApart, Clashing}
 use Rattle.schema.proofs.Building.{row_is, fits_at}
 use Rattle.schema.proofs.Signs.{bit_one, bit_holds}
@@ -33,7 +32,7 @@ moved marks e h = ap (λ (k : ℕ). get_or marks k 0) e ∙ h
 module _ (rows : List Row) (sound : AllSound 64 32 rows) (p q : ℕ) (first second : List ℕ)
     (from-p : ArrowReaches rows p first) (from-q : ArrowReaches rows q second) where
   -- a Q row between two marked arrows
-  pub arrow_torn : TornBy ArrowPoints rows first second → Clashing (ArrowLink rows) (ArrowApart rows) p q
+  pub arrow_torn : TornBy arrows_apart rows first second → Clashing (ArrowLink rows) (ArrowApart rows) p q
   arrow_torn t =
       let r = t.by in
       let b = t.both in
@@ -47,7 +46,7 @@ module _ (rows : List Row) (sound : AllSound 64 32 rows) (p q : ℕ) (first seco
       b.marked
 
   -- two arrows that clash are marked, and their Q row stands
-  pub arrow_torn_by : Clashing (ArrowLink rows) (ArrowApart rows) p q → TornBy ArrowPoints rows first second
+  pub arrow_torn_by : Clashing (ArrowLink rows) (ArrowApart rows) p q → TornBy arrows_apart rows first second
   arrow_torn_by (u, v, l, m, inl h) =
       let f = sound (row (Q u v)) h in
       record { by = row (Q u v); stands = h; both = record { one = u; two = v; apart = refl; marked = inl (bit_holds (from-p u f.0) l, bit_holds (from-q v f.1) m) } }
@@ -70,7 +69,7 @@ module _ (rows : List Row) (sound : AllSound 64 32 rows) (d u : Description) (fi
   both_reached x y one two h k e f a (inr (m, n)) = (y, x, bit_one (from-d y k) (moved first f m), bit_one (from-u x h) (moved second e n), inr a)
 
   -- an X or a K row between two marked descriptions
-  pub torn_clashes : TornBy DescriptionPoints rows first second → Clashing (Link rows) (Apart rows) d u
+  pub torn_clashes : TornBy descriptions_apart rows first second → Clashing (Link rows) (Apart rows) d u
   torn_clashes t =
       let r = t.by in
       let b = t.both in
@@ -95,7 +94,7 @@ module _ (rows : List Row) (sound : AllSound 64 32 rows) (d u : Description) (fi
           (by_K has (omega arith)) t.both.marked
 
   -- two descriptions that clash are marked, and their row stands; a cap clashes with the first mark above it
-  pub clashes_torn : Clashing (Link rows) (Apart rows) d u → TornBy DescriptionPoints rows first second
+  pub clashes_torn : Clashing (Link rows) (Apart rows) d u → TornBy descriptions_apart rows first second
   clashes_torn (x, y, l, m, inl (by_X {a} {b} h)) =
       let f = sound (row (X a b)) h in
       record {

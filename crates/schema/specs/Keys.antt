@@ -3,8 +3,6 @@
 use Rattle.std.specs.Prelude.{◌≡◌, ℕ, ◌+◌, ◌-◌, ◌*◌, ◌/◌, ◌%◌, ◌<◌, ◌≤◌, cond, ◌⊎◌, List, length, get_or, Some, None, Option, ◌==◌, nat_lt, slice_index, slice_index_or}
 use Rattle.search.specs.Leads.{Leads}
 use Rattle.schema.specs.declared.row.Row.{Row}
-use Rattle.schema.specs.declared.clashes.Points.{Points}
-use Rattle.schema.specs.declared.clashes.Points.TheVariants.{ArrowPoints, DescriptionPoints}
 use Rattle.schema.specs.declared.arrows.Arrows.{Arrows}
 use Rattle.schema.specs.declared.descriptions.Descriptions.{Descriptions}
 use Rattle.schema.specs.declared.keys.KeyLinks.{KeyLinks}
@@ -32,26 +30,24 @@ Reaches rows d marks = (u : Description) → Placed u → Bit (slice_index marks
 abbrev pub ArrowTorn : List Row → ℕ → Type 0
 ArrowTorn rows p = Clashing (ArrowLink rows) (ArrowApart rows) p p
 
--- the two points that a row sets apart, in the web of arrows or of descriptions
-abbrev pub apart_points : Points → Row → Option (ℕ × ℕ)
-apart_points ArrowPoints r = cond (r.letter == 81) (Some (r.a, r.b)) None
-apart_points DescriptionPoints r =
+-- the two points of the web of arrows that a row sets apart
+abbrev pub arrows_apart : Row → Option (ℕ × ℕ)
+arrows_apart r = cond (r.letter == 81) (Some (r.a, r.b)) None
+
+-- and those of the web of descriptions
+abbrev pub descriptions_apart : Row → Option (ℕ × ℕ)
+descriptions_apart r =
     cond (r.letter == 88) (Some (32 * r.a, 32 * r.b)) (cond (r.letter == 75) (Some (32 * r.a, 32 * r.b + r.n + 1)) None)
 
--- how many points a web has
-abbrev pub points_of : Points → ℕ
-points_of ArrowPoints = 32
-points_of DescriptionPoints = 2048
-
 -- the row sets two points apart, one marked in each table, either way round
-pub record BothMarked (points : Points) (r : Row) (first second : List ℕ) : Type 0 where
+pub record BothMarked (points : Row → Option (ℕ × ℕ)) (r : Row) (first second : List ℕ) : Type 0 where
   pub one : ℕ
   pub two : ℕ
-  pub apart : apart_points points r ≡ Some (one, two)
+  pub apart : points r ≡ Some (one, two)
   pub marked : ((slice_index first one ≡ 1) × (slice_index second two ≡ 1)) ⊎ ((slice_index first two ≡ 1) × (slice_index second one ≡ 1))
 
 -- some row does
-pub record TornBy (points : Points) (rows : List Row) (first second : List ℕ) : Type 0 where
+pub record TornBy (points : Row → Option (ℕ × ℕ)) (rows : List Row) (first second : List ℕ) : Type 0 where
   pub by : Row
   pub stands : by ∈ rows
   pub both : BothMarked points by first second

@@ -7,7 +7,7 @@ ghost use Rattle.schema.specs.Rows.{AllSound};
 ghost use Rattle.schema.specs.Keys.{Across, ArrowTorn};
 ghost use Rattle.std.proofs.Common.{rules};
 
-use crate::clashes::{Points, torn};
+use crate::clashes::torn;
 use crate::row::Row;
 use crate::set64::{next_member, with_member};
 use search::breadth_first::search;
@@ -52,7 +52,7 @@ pub(crate) fn torn_arrows(rows: &[Row], arrows: &Arrows) -> u64
     for arrow in 0..ARROWS {
         let mut marks = [0u8; ARROWS];
         mark_all(arrows, arrow, &mut marks);
-        if torn(rows, Points::ArrowPoints, &marks, &marks) {
+        if torn::<Arrows>(rows, &marks, &marks) {
             found = with_member(found, arrow);
         }
     }

@@ -1,62 +1,68 @@
 //! Whether two points that a row sets apart are marked, one in each of two tables.
-ghost use Rattle.std.specs.Prelude.{◌≡◌, ◌<◌, ◌≤◌, length, IfSome};
+ghost use Rattle.std.specs.Prelude.{◌≡◌, ℕ, Option, slice_index};
+ghost use Rattle.schema.specs.declared.row.Row.{Row as RowMeaning};
 ghost use Rattle.schema.specs.Verdicts.{Tells};
-ghost use Rattle.schema.specs.Rows.{Sound, AllSound};
-ghost use Rattle.schema.specs.Keys.{apart_points, points_of, BothMarked, TornBy};
+ghost use Rattle.schema.specs.Keys.{arrows_apart, descriptions_apart, BothMarked, TornBy};
 
+use crate::arrows::Arrows;
+use crate::descriptions::Descriptions;
 use crate::row::Row;
 
-/// Which web's points are marked.
-#[derive(Clone, Copy)]
-pub(crate) enum Points {
-    ArrowPoints,
-    DescriptionPoints,
+/// A web with pairs of points that rows set apart.
+pub(crate) trait Clashes {
+    ghost apart: { RowMeaning → Option (ℕ × ℕ) };
+
+    /// The two points that a row sets apart.
+    fn apart(row: Row) -> Option<(usize, usize)>
+        ensures { result ≡ apart row };
 }
 
-/// Whether a row sets two points apart, one marked in each table.
-pub(crate) fn torn(rows: &[Row], points: Points, first: &[u8], second: &[u8]) -> bool
-    requires sound { AllSound 64 32 rows.now }
-    requires long { (points_of points ≤ length first.now) × (points_of points ≤ length second.now) }
-    ensures { Tells result (TornBy points rows.now first.now second.now) }
-{
-    for row in rows {
-        if both_marked(*row, points, first, second) {
-            return true;
+impl Clashes for Arrows {
+    ghost apart = { arrows_apart };
+
+    fn apart(row: Row) -> Option<(usize, usize)> {
+        match row.letter {
+            b'Q' => Some((usize::from(row.a), usize::from(row.b))),
+            _ => None,
         }
     }
-    false
+}
+
+impl Clashes for Descriptions {
+    ghost apart = { descriptions_apart };
+
+    // A cap clashes with the first mark above it.
+    fn apart(row: Row) -> Option<(usize, usize)> {
+        let one = 32 * usize::from(row.a);
+        let two = 32 * usize::from(row.b);
+        match row.letter {
+            b'X' => Some((one, two)),
+            b'K' => Some((one, two + usize::from(row.n) + 1)),
+            _ => None,
+        }
+    }
+}
+
+/// Whether a row sets two points of a web apart, one marked in each table.
+pub(crate) fn torn<W: Clashes>(rows: &[Row], first: &[u8], second: &[u8]) -> bool
+    ensures { Tells result (TornBy W.apart rows.now first.now second.now) }
+{
+    rows.iter().any(|row| both_marked::<W>(*row, first, second))
 }
 
 // A row says in one order what clashes either way round.
-fn both_marked(row: Row, points: Points, first: &[u8], second: &[u8]) -> bool
-    requires sound { Sound 64 32 row }
-    requires long { (points_of points ≤ length first.now) × (points_of points ≤ length second.now) }
-    ensures { Tells result (BothMarked points row first.now second.now) }
+fn both_marked<W: Clashes>(row: Row, first: &[u8], second: &[u8]) -> bool
+    ensures { Tells result (BothMarked W.apart row first.now second.now) }
 {
-    match apart(row, points) {
-        Some((one, two)) => first[one] == 1 && second[two] == 1
-            || first[two] == 1 && second[one] == 1,
+    match W::apart(row) {
+        Some((one, two)) => is_marked(first, one) && is_marked(second, two)
+            || is_marked(first, two) && is_marked(second, one),
         None => false,
     }
 }
 
-// The two points that the row sets apart: a cap clashes with the first mark above it.
-fn apart(row: Row, points: Points) -> Option<(usize, usize)>
-    requires { Sound 64 32 row }
-    ensures value { result ≡ apart_points points row }
-    ensures within { IfSome result (λ x. (x.0 < points_of points) × (x.1 < points_of points)) }
+fn is_marked(marks: &[u8], point: usize) -> bool
+    ensures { Tells result (slice_index marks.now point ≡ 1) }
 {
-    let a = row.a as usize;
-    let b = row.b as usize;
-    match points {
-        Points::ArrowPoints => match row.letter {
-            b'Q' => Some((a, b)),
-            _ => None,
-        },
-        Points::DescriptionPoints => match row.letter {
-            b'X' => Some((32 * a, 32 * b)),
-            b'K' => Some((32 * a, 32 * b + row.n as usize + 1)),
-            _ => None,
-        },
-    }
+    marks.get(point) == Some(&1)
 }

@@ -11,7 +11,7 @@ ghost use Rattle.schema.specs.Verdicts.{NoSharedCap, Tells};
 ghost use Rattle.schema.specs.Webs.{Description, ArrowLink, ArrowApart, Clashing, EmptyArrow};
 
 use crate::arrows::{ARROWS, Arrows, mark_all};
-use crate::clashes::{Points, torn};
+use crate::clashes::torn;
 use crate::descriptions::{Descriptions, POINTS};
 use crate::keys::{KEYS, empty_keys, key_point};
 use crate::row::Row;
@@ -64,7 +64,7 @@ impl Findings {
         if self.is_empty(rows, &first) || self.is_empty(rows, &second) {
             return true;
         }
-        torn(rows, Points::DescriptionPoints, &first, &second)
+        torn::<Descriptions>(rows, &first, &second)
     }
 
     /// Whether one arrow is empty or leads to another: an arrow is empty with its tail.
@@ -104,29 +104,22 @@ impl Findings {
         mark_all(&self.arrows, one, &mut first);
         let mut second = [0u8; ARROWS];
         mark_all(&self.arrows, two, &mut second);
-        torn(rows, Points::ArrowPoints, &first, &second)
+        torn::<Arrows>(rows, &first, &second)
     }
 
     // Whether a description is empty, by what it leads to: two that clash, or a key that is empty.
-    fn is_empty(&self, rows: &[Row], marks: &[u8]) -> bool
+    fn is_empty(&self, rows: &[Row], marks: &[u8; POINTS]) -> bool
         requires sound { AllSound 64 32 rows.now }
         requires found { Found rows.now self.now }
-        requires long { 2048 ≤ length marks.now }
         ensures { (d : Description) → Placed d → Reaches rows.now d marks.now → Tells result (EmptyDescription rows.now d) }
     {
-        torn(rows, Points::DescriptionPoints, marks, marks) || self.marks_empty(marks)
+        torn::<Descriptions>(rows, marks, marks) || self.marks_empty(marks)
     }
 
     // Whether a key that is empty is marked.
-    fn marks_empty(&self, marks: &[u8]) -> bool
-        requires { 2048 ≤ length marks.now }
+    fn marks_empty(&self, marks: &[u8; POINTS]) -> bool
         ensures { Tells result (MarkedEmpty marks.now self.now.empty) }
     {
-        for key in 0..KEYS {
-            if marks[key_point(key)] == 1 && self.empty[key] == 1 {
-                return true;
-            }
-        }
-        false
+        (0..KEYS).any(|key| marks[key_point(key)] == 1 && self.empty[key] == 1)
     }
 }
