@@ -3,6 +3,8 @@ pub mod Answering
 pub mod Bits
 pub mod Building
 pub mod Caps
+pub mod Schemas
+pub mod Finds
 pub mod Doom
 pub mod Emptied
 pub mod Forms

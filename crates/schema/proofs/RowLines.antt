@@ -48,9 +48,10 @@ text_begun c p rows len before headed after e room f g =
 
 -- a sheet whose text stands in the first bytes is printed
 pub prints : (s : Shown) (c p : ℕ) (rows : List Row) {before after : List ℕ} {len : ℕ} → c ≡ s.classes → p ≡ s.arrows → rows ≡ s.rows
-    → Small s.classes s.arrows s.rows → AllSound c p rows → Begun (text_of c p rows) before len after → Prints s before len after
-prints s c p rows {before} {after} {len} is_c is-p are small All-sound b =
+    → Small c p rows → AllSound c p rows → Begun (text_of c p rows) before len after → Prints s before len after
+prints s c p rows {before} {after} {len} is_c is-p are within All-sound b =
     let t = rw (is_c, is-p, are) at b in
+    let small = rw (is_c, is-p, are) at within in
     let tells : IsText (take len after) s.classes s.arrows s.rows = record {
       few_classes = small.few_classes;
       few_arrows = small.few_arrows;

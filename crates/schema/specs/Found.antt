@@ -2,7 +2,9 @@
 use Rattle.std.specs.Prelude.{◌≡◌, ℕ, ◌<◌, Bool, ◌⊎◌, List, slice_index_or}
 use Rattle.search.specs.Leads.{Leads}
 use Rattle.schema.specs.declared.row.Row.{Row}
-use Rattle.schema.specs.declared.findings.Findings.{Findings}
+use Rattle.schema.specs.declared.arrows.Arrows.{Arrows}
+use Rattle.schema.specs.declared.descriptions.Descriptions.{Descriptions}
+use Rattle.schema.specs.Rows.{AllSound}
 use Rattle.schema.specs.Rules.{Rule, row}
 use Rattle.schema.specs.Points.{point, Placed, Told, Built}
 use Rattle.schema.specs.Keys.{keyed, EmptyKeys}
@@ -10,10 +12,12 @@ use Rattle.schema.specs.Verdicts.{Tells}
 use Rattle.schema.specs.Webs.{Description, Link}
 use Rattle.schema.specs.Questions.{EmptyDescription, Parted, Yes}
 
-pub record Found (rows : List Row) (f : Findings) : Type 0 where
-  pub web : Built rows f.web
-  pub arrows : Told 80 f.arrows.overs rows
-  pub empty : EmptyKeys rows f.empty
+-- the webs of sound rows, and the keys that are empty
+pub record Found (rows : List Row) (web : Descriptions) (arrows : Arrows) (empty : List ℕ) : Type 0 where
+  pub sound : AllSound 64 32 rows
+  pub links : Built rows web
+  pub overs : Told 80 arrows.overs rows
+  pub keys : EmptyKeys rows empty
 
 -- a key that is empty is marked
 pub record MarkedEmpty (marks empty : List ℕ) : Type 0 where

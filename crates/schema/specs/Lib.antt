@@ -21,5 +21,6 @@ pub mod Points
 pub mod Keys
 pub mod Found
 pub mod Checks
+pub mod Copies
 pub mod Printing
 pub mod Judgements

@@ -1,44 +1,14 @@
 //! The checks that the rows of a sheet pass before they are judged.
-ghost use Rattle.std.specs.Prelude.{◌≡◌, ℕ, ◌<◌, ◌≤◌, ◌⊎◌, length, MatchResult};
-ghost use Rattle.schema.specs.Masks.{Member};
+ghost use Rattle.std.specs.Prelude.{MatchResult};
 ghost use Rattle.schema.specs.Rows.{AllSound};
-ghost use Rattle.schema.specs.Sheets.{Shown};
-ghost use Rattle.schema.specs.Verdicts.{Small, Passes, SheetFaulty, CheckFaulty};
-ghost use Rattle.schema.specs.Checks.{Copied, Shared};
+ghost use Rattle.schema.specs.Verdicts.{Small, NoSharedCap, SheetFaulty, CheckFaulty};
+ghost use Rattle.schema.specs.Checks.{Shared};
 
 use crate::faults::{CheckFault, SheetFault};
 use crate::letters::unsound_field;
-use crate::limits::{MOST_ARROWS, MOST_CLASSES, MOST_ROWS};
 use crate::row::Row;
 use crate::set64::{has_member, with_member};
-use crate::sheet::Sheet;
-
-/// Copies the rows of a sheet that is within the limits, and tells their number.
-pub(crate) fn copy_rows<S: Sheet>(sheet: &S, rows: &mut [Row]) -> Result<usize, SheetFault>
-    requires { 512 ≤ length rows.old }
-    ensures { Copied (S.Sheet.shows sheet.now) result rows.new }
-{
-    let len = sheet.len();
-    if sheet.classes() > MOST_CLASSES || sheet.arrows() > MOST_ARROWS || len > MOST_ROWS {
-        return Err(SheetFault::OverLimits);
-    }
-    for k in 0..len {
-        if let Some(row) = sheet.row(k) {
-            rows[k] = row;
-        }
-    }
-    Ok(len)
-}
-
-/// Checks rows that are within the limits: first that each is sound, then that no cap stands on an arrow that another
-/// leads to.
-pub(crate) fn check_rows(rows: &[Row], classes: u16, arrows: u16) -> Result<(), CheckFault>
-    requires { Small classes arrows rows.now }
-    ensures { MatchResult result (λ _. Passes classes arrows rows.now) (λ f. CheckFaulty classes arrows rows.now f) }
-{
-    check_sound(rows, classes, arrows)?;
-    check_caps(rows, classes, arrows)
-}
+use crate::sound_sheet::SoundSheet;
 
 /// Checks that each of some rows, which are within the limits, is sound.
 pub(crate) fn check_sound(rows: &[Row], classes: u16, arrows: u16) -> Result<(), SheetFault>
@@ -56,14 +26,14 @@ pub(crate) fn check_sound(rows: &[Row], classes: u16, arrows: u16) -> Result<(),
     Ok(())
 }
 
-fn check_caps(rows: &[Row], classes: u16, arrows: u16) -> Result<(), CheckFault>
-    requires small { Small classes arrows rows.now }
-    requires sound { AllSound classes arrows rows.now }
-    ensures { MatchResult result (λ _. Passes classes arrows rows.now) (λ f. CheckFaulty classes arrows rows.now f) }
+/// Checks that no cap of a sound sheet stands on an arrow that another leads to.
+pub(crate) fn check_caps(sheet: &SoundSheet) -> Result<(), CheckFault>
+    ensures { MatchResult result (λ _. NoSharedCap sheet.now.rows.items) (λ f. CheckFaulty sheet.now.classes sheet.now.arrows sheet.now.rows.items f) }
 {
+    let rows = sheet.rows.as_slice();
     let shared = shared_arrows(rows);
     for (k, row) in rows.iter().enumerate() {
-        if row.letter == b'K' && has_member(shared, row.b as usize / 2) {
+        if row.letter == b'K' && has_member(shared, usize::from(row.b) / 2) {
             return Err(CheckFault::Capped { row: k as u16 });
         }
     }
@@ -79,7 +49,7 @@ pub(crate) fn shared_arrows(rows: &[Row]) -> u64
     let mut shared = 0;
     for row in rows {
         if row.letter == b'P' && row.a != row.b {
-            shared = with_member(shared, row.b as usize);
+            shared = with_member(shared, usize::from(row.b));
         }
     }
     shared

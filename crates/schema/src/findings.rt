@@ -1,125 +1,124 @@
-//! What the rows tell of any description or arrow: where it leads, and whether it is empty.
-ghost use Rattle.std.specs.Prelude.{◌≡◌, ℕ, ◌<◌, ◌≤◌, ◌⊎◌, length};
+//! What a schema tells of any description or arrow: where it leads, and whether it is empty.
+ghost use Rattle.std.specs.Prelude.{◌≡◌, ◌<◌, ◌⊎◌};
 ghost use Rattle.search.specs.Leads.{Leads};
-ghost use Rattle.schema.specs.Found.{Found, MarkedEmpty, TellsLeads, TellsParted};
+ghost use Rattle.schema.specs.Found.{MarkedEmpty, TellsLeads, TellsParted};
 ghost use Rattle.schema.specs.Keys.{Reaches};
 ghost use Rattle.schema.specs.Points.{Placed};
 ghost use Rattle.schema.specs.Questions.{EmptyDescription, Yes};
-ghost use Rattle.schema.specs.Rows.{AllSound};
 ghost use Rattle.schema.specs.Rules.{Q};
-ghost use Rattle.schema.specs.Verdicts.{NoSharedCap, Tells};
+ghost use Rattle.schema.specs.Verdicts.{Tells};
 ghost use Rattle.schema.specs.Webs.{Description, ArrowLink, ArrowApart, Clashing, EmptyArrow};
 
-use crate::arrows::{ARROWS, Arrows, mark_all};
+use crate::arrows::{ARROWS, Arrows};
 use crate::clashes::torn;
 use crate::descriptions::{Descriptions, POINTS};
 use crate::keys::{KEYS, empty_keys, key_point};
-use crate::row::Row;
+use crate::marking::marked;
+use crate::schema::Schema;
+use std::marker::Model;
 
-/// The webs of some rows, and a byte for each key, 1 if it is empty.
+/// The webs of a schema, and a byte for each key, 1 if it is empty. A contract sees the rows that they tell of.
 #[derive(Drop)]
-pub(crate) struct Findings {
+pub(crate) struct Findings<'a> {
+    schema: &'a Schema,
     web: Descriptions,
     arrows: Arrows,
     empty: [u8; 129],
 }
 
-impl Findings {
-    /// What some rows tell.
-    pub(crate) fn of(rows: &[Row]) -> Findings
-        requires few { length rows.now ≤ 512 }
-        requires sound { AllSound 64 32 rows.now }
-        requires uncapped { NoSharedCap rows.now }
-        ensures { Found rows.now result }
+impl<'a> Model for Findings<'a> {
+    ghost use Rattle.std.specs.Prelude.{List};
+    ghost use Rattle.schema.specs.declared.row.Row.{Row};
+    ghost use Rattle.schema.specs.Found.{Found};
+
+    ghost Value = { List Row };
+
+    ghost view = { λ f. f.schema.now.rows.items };
+
+    ghost invariant = { λ f. Found f.schema.now.rows.items f.web f.arrows f.empty };
+}
+
+impl Findings<'_> {
+    /// What a schema tells.
+    pub(crate) fn of(schema: &Schema) -> Findings<'_>
+        ensures { result ≡ schema.now.rows.items }
     {
+        let rows = schema.rows.as_slice();
         let web = Descriptions::of(rows);
         let overs = web.overs;
         let arrows = Arrows { overs };
         let empty = empty_keys(rows);
-        Findings { web, arrows, empty }
+        Findings {
+            schema,
+            web,
+            arrows,
+            empty,
+        }
     }
 
     /// Whether the description at one point is empty or leads to that at another.
-    pub(crate) fn leads(&self, rows: &[Row], from: usize, to: usize) -> bool
-        requires sound { AllSound 64 32 rows.now }
-        requires found { Found rows.now self.now }
-        requires within { to < 2048 }
-        ensures { TellsLeads rows.now from to result }
+    pub(crate) fn leads(&self, from: usize, to: usize) -> bool
+        requires { to < 2048 }
+        ensures { TellsLeads self.now from to result }
     {
-        let mut marks = [0u8; POINTS];
-        mark_all(&self.web, from, &mut marks);
-        self.is_empty(rows, &marks) || marks[to] == 1
+        let marks = marked(&self.web, from);
+        self.is_empty(&marks) || marks[to] == 1
     }
 
     /// Whether one of the descriptions at two points is empty, or they lead to two that clash, one from each.
-    pub(crate) fn parted(&self, rows: &[Row], one: usize, two: usize) -> bool
-        requires sound { AllSound 64 32 rows.now }
-        requires found { Found rows.now self.now }
-        ensures { TellsParted rows.now one two result }
+    pub(crate) fn parted(&self, one: usize, two: usize) -> bool
+        ensures { TellsParted self.now one two result }
     {
-        let mut first = [0u8; POINTS];
-        mark_all(&self.web, one, &mut first);
-        let mut second = [0u8; POINTS];
-        mark_all(&self.web, two, &mut second);
-        if self.is_empty(rows, &first) || self.is_empty(rows, &second) {
+        let first = marked(&self.web, one);
+        let second = marked(&self.web, two);
+        if self.is_empty(&first) || self.is_empty(&second) {
             return true;
         }
-        torn::<Descriptions>(rows, &first, &second)
+        torn::<Descriptions>(&self.schema.rows, &first, &second)
     }
 
     /// Whether one arrow is empty or leads to another: an arrow is empty with its tail.
-    pub(crate) fn arrow_leads(&self, rows: &[Row], from: usize, to: usize) -> bool
-        requires sound { AllSound 64 32 rows.now }
-        requires found { Found rows.now self.now }
-        requires within { (from < 32) × (to < 32) }
-        ensures { Tells result (EmptyArrow rows.now from ⊎ Leads (ArrowLink rows.now) from to) }
+    pub(crate) fn arrow_leads(&self, from: usize, to: usize) -> bool
+        requires { (from < 32) × (to < 32) }
+        ensures { Tells result (EmptyArrow self.now from ⊎ Leads (ArrowLink self.now) from to) }
     {
-        let mut marks = [0u8; ARROWS];
-        mark_all(&self.arrows, from, &mut marks);
+        let marks: [u8; ARROWS] = marked(&self.arrows, from);
         self.empty[64 + 2 * from] == 1 || marks[to] == 1
     }
 
     /// Whether one of two arrows is empty, or they, their tails or their heads lead to two that clash, one from each.
     /// An arrow is empty with its ends, so that these tell of it.
-    pub(crate) fn arrows_parted(&self, rows: &[Row], one: usize, two: usize) -> bool
-        requires sound { AllSound 64 32 rows.now }
-        requires found { Found rows.now self.now }
-        requires within { (one < 32) × (two < 32) }
-        ensures { Tells result (Yes rows.now (Q one two)) }
+    pub(crate) fn arrows_parted(&self, one: usize, two: usize) -> bool
+        requires { (one < 32) × (two < 32) }
+        ensures { Tells result (Yes self.now (Q one two)) }
     {
-        if self.arrows_clash(rows, one, two) || self.parted(rows, 64 * one + 1, 64 * two + 1) {
+        if self.arrows_clash(one, two) || self.parted(64 * one + 1, 64 * two + 1) {
             return true;
         }
-        self.parted(rows, 64 * one + 33, 64 * two + 33)
+        self.parted(64 * one + 33, 64 * two + 33)
     }
 
     // Whether two arrows lead to two that clash, one from each.
-    fn arrows_clash(&self, rows: &[Row], one: usize, two: usize) -> bool
-        requires sound { AllSound 64 32 rows.now }
-        requires found { Found rows.now self.now }
-        requires within { (one < 32) × (two < 32) }
-        ensures { Tells result (Clashing (ArrowLink rows.now) (ArrowApart rows.now) one two) }
+    fn arrows_clash(&self, one: usize, two: usize) -> bool
+        requires { (one < 32) × (two < 32) }
+        ensures { Tells result (Clashing (ArrowLink self.now) (ArrowApart self.now) one two) }
     {
-        let mut first = [0u8; ARROWS];
-        mark_all(&self.arrows, one, &mut first);
-        let mut second = [0u8; ARROWS];
-        mark_all(&self.arrows, two, &mut second);
-        torn::<Arrows>(rows, &first, &second)
+        let first: [u8; ARROWS] = marked(&self.arrows, one);
+        let second: [u8; ARROWS] = marked(&self.arrows, two);
+        torn::<Arrows>(&self.schema.rows, &first, &second)
     }
 
     // Whether a description is empty, by what it leads to: two that clash, or a key that is empty.
-    fn is_empty(&self, rows: &[Row], marks: &[u8; POINTS]) -> bool
-        requires sound { AllSound 64 32 rows.now }
-        requires found { Found rows.now self.now }
-        ensures { (d : Description) → Placed d → Reaches rows.now d marks.now → Tells result (EmptyDescription rows.now d) }
+    fn is_empty(&self, marks: &[u8; POINTS]) -> bool
+        ensures { (d : Description) → Placed d → Reaches self.now d marks.now → Tells result (EmptyDescription self.now d) }
     {
-        torn::<Descriptions>(rows, marks, marks) || self.marks_empty(marks)
+        torn::<Descriptions>(&self.schema.rows, marks, marks) || marks_empty(marks, &self.empty)
     }
+}
 
-    // Whether a key that is empty is marked.
-    fn marks_empty(&self, marks: &[u8; POINTS]) -> bool
-        ensures { Tells result (MarkedEmpty marks.now self.now.empty) }
-    {
-        (0..KEYS).any(|key| marks[key_point(key)] == 1 && self.empty[key] == 1)
-    }
+// Whether a key that is empty is marked.
+fn marks_empty(marks: &[u8; POINTS], empty: &[u8; 129]) -> bool
+    ensures { Tells result (MarkedEmpty marks.now empty.now) }
+{
+    (0..KEYS).any(|key| marks[key_point(key)] == 1 && empty[key] == 1)
 }

@@ -14,6 +14,7 @@ pub mod letters;
 pub mod limits;
 mod lines;
 pub mod loading;
+mod marking;
 pub mod print;
 mod printing;
 pub mod question;
@@ -24,8 +25,10 @@ mod rivals;
 #[cfg(test)]
 mod round_trips;
 pub mod row;
+mod schema;
 mod set64;
 pub mod sheet;
+mod sound_sheet;
 mod table;
 #[cfg(test)]
 mod tests;

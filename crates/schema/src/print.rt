@@ -2,32 +2,24 @@
 ghost use Rattle.std.specs.Prelude.{◌≡◌, ◌+◌, ◌*◌, ◌≤◌, length};
 ghost use Rattle.schema.specs.Prints.{Printed, ReadBack, Reprinted};
 ghost use Rattle.schema.specs.Printing.{Begun};
-ghost use Rattle.schema.specs.Rows.{AllSound};
 ghost use Rattle.schema.specs.Texts.{text_of};
-ghost use Rattle.schema.specs.Verdicts.{Small};
 
-use crate::checks::{check_sound, copy_rows};
 use crate::faults::{PrintFault, ReprintFault};
-use crate::limits::{LINE_BYTES, MOST_ROWS};
+use crate::limits::LINE_BYTES;
 use crate::printing::put_line;
-use crate::row::{BLANK, Row};
 use crate::sheet::Sheet;
+use crate::sound_sheet::SoundSheet;
 use crate::text_sheet::TextSheet;
 
 /// Writes the text of a sheet over the first bytes, and answers its length.
 pub fn print<S: Sheet>(sheet: &S, bytes: &mut [u8]) -> Result<usize, PrintFault>
     ensures { Printed (S.Sheet.shows sheet.now) bytes.old result bytes.new }
 {
-    let mut buffer = [BLANK; MOST_ROWS];
-    let len = copy_rows(sheet, &mut buffer)?;
-    let rows = &buffer[0..len];
-    let classes = sheet.classes();
-    let arrows = sheet.arrows();
-    check_sound(rows, classes, arrows)?;
-    if bytes.len() < LINE_BYTES * (len + 1) {
+    let copy = SoundSheet::of(sheet)?;
+    if bytes.len() < LINE_BYTES * (copy.rows.len() + 1) {
         return Err(PrintFault::ShortBuffer);
     }
-    Ok(put_text(bytes, classes, arrows, rows))
+    Ok(put_text(bytes, &copy))
 }
 
 /// Prints a sheet and reads it back: unrefused, the same counts and rows.
@@ -54,13 +46,19 @@ pub fn reprint(text: &[u8], bytes: &mut [u8]) -> Result<usize, ReprintFault>
 }
 
 // Writes the header and a line for each row, and answers where they end.
-fn put_text(bytes: &mut [u8], classes: u16, arrows: u16, rows: &[Row]) -> usize
-    requires small { Small classes arrows rows.now }
-    requires sound { AllSound classes arrows rows.now }
-    requires room { 14 * (length rows.now + 1) ≤ length bytes.old }
-    ensures { Begun (text_of classes arrows rows.now) bytes.old result bytes.new }
+fn put_text(bytes: &mut [u8], sheet: &SoundSheet) -> usize
+    requires { 14 * (length sheet.now.rows.items + 1) ≤ length bytes.old }
+    ensures { Begun (text_of sheet.now.classes sheet.now.arrows sheet.now.rows.items) bytes.old result bytes.new }
 {
-    put_line(bytes, 0, b'H', classes, arrows, rows.len() as u16);
+    let rows = sheet.rows.as_slice();
+    put_line(
+        bytes,
+        0,
+        b'H',
+        sheet.classes,
+        sheet.arrows,
+        rows.len() as u16,
+    );
     let mut end = LINE_BYTES;
     for row in rows {
         put_line(bytes, end, row.letter, row.a, row.b, row.n);

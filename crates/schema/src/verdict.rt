@@ -1,12 +1,10 @@
 //! The verdict: which classes and arrows the rows of a sheet force empty.
 ghost use Rattle.std.specs.Prelude.{◌≡◌, ℕ, ◌+◌, ◌-◌, ◌*◌, ◌<◌, ◌≤◌, length, drop, count_by, nat_eq, slice_index};
-ghost use Rattle.schema.specs.Verdicts.{Passes, Judged, Verdict};
+ghost use Rattle.schema.specs.Verdicts.{Judged, Verdict};
 
-use crate::checks::{check_rows, copy_rows};
 use crate::faults::VerdictFault;
 use crate::keys::empty_keys;
-use crate::limits::MOST_ROWS;
-use crate::row::{BLANK, Row};
+use crate::schema::Schema;
 use crate::sheet::Sheet;
 
 /// Writes 1 for each name that the rows force empty and 0 for each other, classes first; leaves the later bytes, and
@@ -14,34 +12,25 @@ use crate::sheet::Sheet;
 pub fn verdict<S: Sheet>(sheet: &S, table: &mut [u8]) -> Result<usize, VerdictFault>
     ensures { Verdict (S.Sheet.shows sheet.now) table.old result table.new }
 {
-    let mut buffer = [BLANK; MOST_ROWS];
-    let len = copy_rows(sheet, &mut buffer)?;
-    let rows = &buffer[0..len];
-    let classes = sheet.classes();
-    let arrows = sheet.arrows();
-    check_rows(rows, classes, arrows)?;
-    judge(rows, classes as usize, arrows as usize, table)
+    let schema = Schema::of(sheet)?;
+    judge(&schema, table)
 }
 
-// The verdict on rows that pass the checks.
-fn judge(
-    rows: &[Row],
-    classes: usize,
-    arrows: usize,
-    table: &mut [u8],
-) -> Result<usize, VerdictFault>
-    requires { Passes classes arrows rows.now }
-    ensures { Judged classes arrows rows.now table.old result table.new }
+// The verdict on a schema.
+fn judge(schema: &Schema, table: &mut [u8]) -> Result<usize, VerdictFault>
+    ensures { Judged schema.now.classes schema.now.arrows schema.now.rows.items table.old result table.new }
 {
+    let classes = usize::from(schema.classes);
+    let arrows = usize::from(schema.arrows);
     if table.len() < classes + arrows {
         return Err(VerdictFault::ShortTable);
     }
-    let empty = empty_keys(rows);
+    let empty = empty_keys(&schema.rows);
     write_names(table, classes, arrows, &empty);
-    Ok(count_ones(&table[0..classes + arrows]))
+    Ok(count_ones(&table[..classes + arrows]))
 }
 
-// Writes the byte of each class and then that of each arrow.
+// Writes the byte of each class and then that of each arrow, which is empty with its tail.
 fn write_names(table: &mut [u8], classes: usize, arrows: usize, empty: &[u8])
     requires few { (classes ≤ 64) × (arrows ≤ 32) }
     requires room { classes + arrows ≤ length table.old }
@@ -50,21 +39,9 @@ fn write_names(table: &mut [u8], classes: usize, arrows: usize, empty: &[u8])
     ensures arrows { (k : ℕ) → k < arrows → slice_index table.new (classes + k) ≡ slice_index empty.now (64 + 2 * k) }
     ensures later { drop (classes + arrows) table.new ≡ drop (classes + arrows) table.old }
 {
-    for name in 0..classes + arrows {
-        table[name] = empty[name_key(name, classes)];
-    }
-}
-
-// The key that tells whether a name is empty: a class itself, or the tail of an arrow.
-fn name_key(name: usize, classes: usize) -> usize
-    requires { name < classes + 32 }
-    ensures class { name < classes → result ≡ name }
-    ensures arrow { classes ≤ name → result ≡ 64 + 2 * (name - classes) }
-{
-    if name < classes {
-        name
-    } else {
-        64 + 2 * (name - classes)
+    table[..classes].copy_from_slice(&empty[..classes]);
+    for arrow in 0..arrows {
+        table[classes + arrow] = empty[64 + 2 * arrow];
     }
 }
 

@@ -1,46 +1,53 @@
-use Rattle.std.proofs.Common.{get_or, arith, below_more}
+use Rattle.std.proofs.Common.{◌≡◌, ℕ, ◌/◌, get_or, sym, subst, arith, below_more}
 use Rattle.std.proofs.lemmas.Option.{slice_get-get_or}
 use Rattle.schema.specs.declared.row.Row.{Row}
-use Rattle.schema.specs.Verdicts.{CapsShared, capped}
+use Rattle.schema.specs.Columns.{blank_row}
+use Rattle.schema.specs.Masks.{Member}
+use Rattle.schema.specs.Rows.{AllSound}
+use Rattle.schema.specs.Rules.{arrow}
+use Rattle.schema.specs.Verdicts.{CapsShared, Small, capped}
 use Rattle.schema.proofs.Building.{fits_at}
-use Rattle.schema.proofs.Caps.{sound_more, caps, no_caps, no_cap_letter}
+use Rattle.schema.proofs.Caps.{caps, no_caps, no_cap_letter}
+use Rattle.schema.proofs.Schemas.{sheet_sound}
 use Rattle.schema.proofs.Members.{∈_at, each_below, every_∈}
 use Rattle.schema.proofs.checks.check_caps.Goals as goal
 use Rattle.schema.proofs.checks.check_caps.Goals.{else-row-eq75-via-then-row-eq75+else-has_member, else-row-eq75-via-else-row-eq75}
 
-pub shared_arrows-shared-requires : goal.shared_arrows-shared-requires
-shared_arrows-shared-requires c = sound_more c.args.classes c.args.arrows c.args.rows.now c.requires.small.few_classes c.requires.small.few_arrows c.requires.sound
-
 pub has_member-requires : goal.has_member-requires
 has_member-requires c =
-    let all = sound_more c.args.classes c.args.arrows c.args.rows.now c.requires.small.few_classes c.requires.small.few_arrows c.requires.sound in
-    let f = fits_at _ 75 c.if-row-eq75.true (all _ (∈_at c.args.rows.now c.loop-k.k (record { letter = 0; a = 0; b = 0; n = 0 }) c.loop-k-test.true)) in
-    omega (arith, f.1)
+    let rows = c.as_slice-rows.result.now in
+    let sound : AllSound 64 32 rows = subst (AllSound 64 32) (sym c.as_slice-rows.ensures.value) (sheet_sound c.args.sheet.now) in
+    let f = fits_at (get_or rows c.loop-k.k blank_row) 75 c.if-row-eq75.true (sound _ (∈_at rows c.loop-k.k blank_row c.loop-k-test.true)) in
+    omega (arith, f.1, c.from.ensures)
 
 pub returns-then-has_member : goal.returns-then-has_member
 returns-then-has_member c =
-    let rows = c.args.rows.now in
-    let none : Row = record { letter = 0; a = 0; b = 0; n = 0 } in
-    let r = get_or rows c.loop-k.k none in
-    capped c.loop-k.k r c.requires.small c.requires.sound (slice_get-get_or rows c.loop-k.k none c.loop-k-test.true)
-    (caps rows c.shared_arrows-shared.result c.shared_arrows-shared.ensures r c.if-row-eq75.true c.if-has_member.ensures)
-    (each_below (λ (q : Row). CapsShared rows q → ⊥) rows c.loop-k.k none (omega arith) c.loop-k.invariant)
+    let sheet = c.args.sheet.now in
+    let rows = c.as_slice-rows.result.now in
+    let r = get_or rows c.loop-k.k blank_row in
+    let here : c.from.result / 2 ≡ arrow r.b = omega (arith, c.from.ensures) in
+    let small : Small sheet.classes sheet.arrows rows = rw c.as_slice-rows.ensures.value sheet.small in
+    let sound : AllSound sheet.classes sheet.arrows rows = rw c.as_slice-rows.ensures.value sheet.sound in
+    rw (← c.as_slice-rows.ensures.value)
+    (capped c.loop-k.k r small sound (slice_get-get_or rows c.loop-k.k blank_row c.loop-k-test.true)
+    (caps rows c.shared_arrows-shared.result c.shared_arrows-shared.ensures r c.if-row-eq75.true (subst (Member c.shared_arrows-shared.result) here c.if-has_member.ensures))
+    (each_below (λ (q : Row). CapsShared rows q → ⊥) rows c.loop-k.k blank_row (omega arith) c.loop-k.invariant))
 
 pub loop-k-preserved : goal.loop-k-preserved
 loop-k-preserved c =
-    let rows = c.args.rows.now in
+    let rows = c.as_slice-rows.result.now in
     let s = c.shared_arrows-shared in
-    let r = get_or rows c.loop-k.k (record { letter = 0; a = 0; b = 0; n = 0 }) in
+    let r = get_or rows c.loop-k.k blank_row in
     below_more _ _ c.loop-k.invariant
     (elim c.else-row-eq75.branch [
-      | else-row-eq75-via-then-row-eq75+else-has_member v ↦ no_caps rows s.result s.ensures r v.if-has_member.ensures
+      | else-row-eq75-via-then-row-eq75+else-has_member v ↦
+          let here : v.from.result / 2 ≡ arrow r.b = omega (arith, v.from.ensures) in
+          no_caps rows s.result s.ensures r (subst (λ (k : ℕ). Member s.result k → ⊥) here v.if-has_member.ensures)
       | else-row-eq75-via-else-row-eq75 v ↦ no_cap_letter rows s.result s.ensures r v.if-row-eq75.false
     ])
 
 pub returns : goal.returns
 returns c =
-    record {
-      small = c.requires.small;
-      sound = c.requires.sound;
-      uncapped = every_∈ (λ (q : Row). CapsShared c.args.rows.now q → ⊥) c.args.rows.now (record { letter = 0; a = 0; b = 0; n = 0 }) (λ k l. c.loop-k.invariant k (omega arith));
-    }
+    let rows = c.as_slice-rows.result.now in
+    rw (← c.as_slice-rows.ensures.value)
+    (every_∈ (λ (q : Row). CapsShared rows q → ⊥) rows blank_row (λ k l. c.loop-k.invariant k (omega arith)))

@@ -1,7 +1,9 @@
-use Rattle.std.proofs.Common.{List, [], ◌∷◌, ◌++◌, get_or, take, sym, subst, arith}
+use Rattle.std.proofs.Common.{ℕ, List, [], ◌∷◌, ◌++◌, get_or, take, sym, subst, arith}
 use Rattle.std.proofs.lemmas.List.{take_more, take_all}
 use Rattle.schema.specs.declared.row.Row.{Row}
 use Rattle.schema.specs.Checks.{Shared}
+use Rattle.schema.specs.Columns.{blank_row}
+use Rattle.schema.specs.Masks.{Joins}
 use Rattle.schema.proofs.Building.{fits_at}
 use Rattle.schema.proofs.Caps.{shared_none, shared_other, shared_more}
 use Rattle.schema.proofs.Members.{∈_at}
@@ -13,22 +15,22 @@ loop-row-init c = shared_none
 
 pub with_member-shared-requires : goal.with_member-shared-requires
 with_member-shared-requires c =
-    let f = fits_at _ 80 c.if-row-eq80.true (c.requires _ (∈_at c.args.rows.now c.loop-row.row-index (record { letter = 0; a = 0; b = 0; n = 0 }) c.loop-row-test.true)) in
+    let f = fits_at _ 80 c.if-row-eq80.true (c.requires _ (∈_at c.args.rows.now c.loop-row.row-index blank_row c.loop-row-test.true)) in
     omega (arith, f.1)
 
 pub loop-row-preserved : goal.loop-row-preserved
 loop-row-preserved c =
     let rows = c.args.rows.now in
     let i = c.loop-row.row-index in
-    let none : Row = record { letter = 0; a = 0; b = 0; n = 0 } in
-    let r = get_or rows i none in
-    let e = take_more rows i none c.loop-row-test.true in
+    let r = get_or rows i blank_row in
+    let e = take_more rows i blank_row c.loop-row-test.true in
     subst (λ (rs : List Row). Shared rs c.if-row-eq80.shared) (sym e)
     (elim c.if-row-eq80.branch [
       | then-row-eq80+then-row v ↦
-          let f = fits_at r 80 v.if-row-eq80.true (c.requires r (∈_at rows i none c.loop-row-test.true)) in
+          let f = fits_at r 80 v.if-row-eq80.true (c.requires r (∈_at rows i blank_row c.loop-row-test.true)) in
           subst (Shared (take i rows ++ r ∷ [])) (sym v.shared-is)
-          (shared_more (take i rows) c.loop-row.shared v.with_member-shared.result r v.if-row-eq80.true (omega (arith, f.3)) v.if-row.true v.with_member-shared.ensures c.loop-row.invariant)
+          (shared_more (take i rows) c.loop-row.shared v.with_member-shared.result r v.if-row-eq80.true (omega (arith, f.3)) v.if-row.true
+          (subst (λ (k : ℕ). Joins c.loop-row.shared k v.with_member-shared.result) (omega arith) v.with_member-shared.ensures) c.loop-row.invariant)
       | else-row-eq80 v ↦
           subst (Shared (take i rows ++ r ∷ [])) (sym v.shared-is)
           (shared_other (take i rows) c.loop-row.shared r

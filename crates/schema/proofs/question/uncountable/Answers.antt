@@ -1,6 +1,9 @@
-use Rattle.std.proofs.Common.{ℕ, sym, refl, ap, subst}
+use Rattle.std.proofs.Common.{◌≡◌, ℕ, ◌/◌, List, sym, refl, ap, subst, arith}
 use Rattle.schema.specs.declared.row.Row.{Row}
+use Rattle.schema.specs.Checks.{Shared}
+use Rattle.schema.specs.Masks.{Member}
 use Rattle.schema.specs.Rules.{arrow}
+use Rattle.schema.specs.Verdicts.{Tells}
 use Rattle.schema.specs.Webs.{Alone}
 use Rattle.schema.proofs.Building.{row_is}
 use Rattle.schema.proofs.Caps.{member_tells}
@@ -10,8 +13,11 @@ use Rattle.schema.proofs.question.uncountable.Goals as goal
 pub returns-then-asked-ge2 : goal.returns-then-asked-ge2
 returns-then-asked-ge2 c =
     let r = c.args.asked in
-    let rows = c.args.rows.now in
+    let rows = c.args.schema.now.rows.items in
+    let set = c.shared_arrows.result in
+    let shared : Shared rows set = subst (λ (rs : List Row). Shared rs set) c.deref.ensures.0 c.shared_arrows.ensures in
+    let here : c.from.result / 2 ≡ arrow r.b = omega (arith, c.from.ensures) in
     tells_same c.has_member.result
     (λ (s : Alone rows (arrow r.b) → ⊥). (r.a, r.b, r.n, sym (row_is r 70 r.a r.b r.n c.if-asked-eq70.true refl refl refl), c.if-asked-ge2.true, s))
     (λ u. subst (λ (e : ℕ). Alone rows (arrow e) → ⊥) (sym (ap (λ (x : Row). x.b) u.3)) u.5)
-    (member_tells rows c.shared_arrows.result c.shared_arrows.ensures c.has_member.result (arrow r.b) c.has_member.ensures)
+    (member_tells rows set shared c.has_member.result (arrow r.b) (subst (λ (k : ℕ). Tells c.has_member.result (Member set k)) here c.has_member.ensures))

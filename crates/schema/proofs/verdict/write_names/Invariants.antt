@@ -1,8 +1,8 @@
 use Rattle.std.proofs.Common.{◌≡◌, ℕ, ◌+◌, ◌*◌, ◌<◌, get_or, drop}
 use Rattle.schema.proofs.verdict.write_names.Given as goal
 
-abbrev pub invariant-loop-name : goal.invariant-loop-name
-invariant-loop-name l =
-    ((k : ℕ) → k < l.name → k < l.classes → get_or l.table k 0 ≡ get_or l.empty k 0)
-    × ((k : ℕ) → l.classes + k < l.name → get_or l.table (l.classes + k) 0 ≡ get_or l.empty (64 + 2 * k) 0)
-    × (drop (l.classes + l.arrows) l.table ≡ drop (l.classes + l.arrows) l.initial.table)
+abbrev pub invariant-loop-arrow : goal.invariant-loop-arrow
+invariant-loop-arrow l =
+    ((k : ℕ) → k < l.classes → get_or l.table k 0 ≡ get_or l.empty k 0)
+    × ((k : ℕ) → k < l.arrow → get_or l.table (l.classes + k) 0 ≡ get_or l.empty (64 + 2 * k) 0)
+    × (drop (l.classes + l.arrows) l.table ≡ drop (l.classes + l.arrows) l.fn.table)

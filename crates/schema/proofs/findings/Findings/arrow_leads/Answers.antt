@@ -1,5 +1,6 @@
 use Rattle.std.proofs.Common.{◌+◌, ◌*◌, get_or, refl, inl}
 use Rattle.search.specs.Leads.{Leads}
+use Rattle.schema.proofs.Finds.{found_as}
 use Rattle.schema.specs.Webs.{ArrowLink}
 use Rattle.schema.proofs.Doom.{arrow_bit}
 use Rattle.schema.proofs.Marks.{arrow_reaches}
@@ -8,17 +9,24 @@ use Rattle.schema.proofs.findings.Findings.arrow_leads.Goals as goal
 
 pub returns-then-self-from-eq1 : goal.returns-then-self-from-eq1
 returns-then-self-from-eq1 c =
-    let b = get_or c.args.self.now.empty (64 + 2 * c.args.from) 0 in
+    let it = c.self.inside in
+    let rows = c.args.self.now in
+    let found = found_as c.self.view_is c.self.invariant in
+    let sound = found.sound in
+    let b = get_or it.empty (64 + 2 * c.args.from) 0 in
     let o = c.if-self-from-eq1.true in
-    tells_one b o (inl (bit_one (arrow_bit c.args.rows.now c.args.self.now.empty b c.args.from c.requires.within.0 refl c.requires.found.empty) o))
+    tells_one b o (inl (bit_one (arrow_bit rows it.empty b c.args.from c.requires.0 refl found.keys) o))
 
 pub returns-else-self-from-eq1 : goal.returns-else-self-from-eq1
 returns-else-self-from-eq1 c =
-    let rows = c.args.rows.now in
+    let it = c.self.inside in
+    let rows = c.args.self.now in
+    let found = found_as c.self.view_is c.self.invariant in
+    let sound = found.sound in
     let p = c.args.from in
-    let marks = c.mark_all.new.marks in
-    let b = get_or c.args.self.now.empty (64 + 2 * p) 0 in
+    let marks = c.marked-marks.result in
+    let b = get_or it.empty (64 + 2 * p) 0 in
     tells_second _ (Leads (ArrowLink rows) p c.args.to)
-    (λ z. c.if-self-from-eq1.false (bit_holds (arrow_bit rows c.args.self.now.empty b p c.requires.within.0 refl c.requires.found.empty) z))
+    (λ z. c.if-self-from-eq1.false (bit_holds (arrow_bit rows it.empty b p c.requires.0 refl found.keys) z))
     (tells_bit (get_or marks c.args.to 0)
-    (arrow_reaches rows c.args.self.now.arrows c.requires.found.arrows c.requires.sound p c.requires.within.0 marks c.mark_all.ensures c.args.to c.requires.within.1))
+    (arrow_reaches rows it.arrows found.overs sound p c.requires.0 marks c.marked-marks.ensures c.args.to c.requires.1))

@@ -1,3 +1,8 @@
+use Rattle.std.proofs.Common.{List, ◌∙◌, subst}
+use Rattle.schema.specs.declared.row.Row.{Row}
+use Rattle.schema.specs.Keys.{arrows_apart, TornBy}
+use Rattle.schema.specs.Verdicts.{Tells}
+use Rattle.schema.proofs.Finds.{found_as}
 use Rattle.schema.proofs.Marks.{arrow_reaches}
 use Rattle.schema.proofs.Signs.{tells_same}
 use Rattle.schema.proofs.Torn.{arrow_torn, arrow_torn_by}
@@ -5,12 +10,15 @@ use Rattle.schema.proofs.findings.Findings.arrows_clash.Goals as goal
 
 pub returns : goal.returns
 returns c =
-    let rows = c.args.rows.now in
-    let sound = c.requires.sound in
+    let it = c.self.inside in
+    let rows = c.args.self.now in
+    let found = found_as c.self.view_is c.self.invariant in
+    let sound = found.sound in
+    let torn = subst (λ (rs : List Row). Tells c.torn.result (TornBy arrows_apart rs c.marked-first.result c.marked-second.result)) (c.deref.ensures.0 ∙ c.self.view_is) c.torn.ensures in
     let p = c.args.one in
     let q = c.args.two in
-    let first = c.mark_all.new.marks in
-    let second = c.mark_all-2.new.marks in
-    let from-p = arrow_reaches rows c.args.self.now.arrows c.requires.found.arrows sound p c.requires.within.0 first c.mark_all.ensures in
-    let from-q = arrow_reaches rows c.args.self.now.arrows c.requires.found.arrows sound q c.requires.within.1 second c.mark_all-2.ensures in
-    tells_same c.torn.result (arrow_torn rows sound p q first second from-p from-q) (arrow_torn_by rows sound p q first second from-p from-q) c.torn.ensures
+    let first = c.marked-first.result in
+    let second = c.marked-second.result in
+    let from-p = arrow_reaches rows it.arrows found.overs sound p c.requires.0 first c.marked-first.ensures in
+    let from-q = arrow_reaches rows it.arrows found.overs sound q c.requires.1 second c.marked-second.ensures in
+    tells_same c.torn.result (arrow_torn rows sound p q first second from-p from-q) (arrow_torn_by rows sound p q first second from-p from-q) torn

@@ -7,23 +7,23 @@ use Rattle.schema.proofs.findings.Findings.arrows_parted.Goals.{then-arrows_clas
 
 pub returns-then-arrows_clash : goal.returns-then-arrows_clash
 returns-then-arrows_clash c =
-    let rows = c.args.rows.now in
+    let rows = c.args.self.now in
     let p = c.args.one in
     let q = c.args.two in
     elim c.then-arrows_clash.branch [
       | then-arrows_clash-via-then-arrows_clash v ↦ inr (inr (inl v.if-arrows_clash.ensures))
       | then-arrows_clash-via-else-arrows_clash+then-parted v ↦
           tails_part rows p q
-          (v.if-parted.ensures (mark (2 * p) 1) (mark (2 * q) 1) (tail_placed p c.requires.within.0) (tail_placed q c.requires.within.1) (omega arith) (omega arith))
+          (v.if-parted.ensures (mark (2 * p) 1) (mark (2 * q) 1) (tail_placed p c.requires.0) (tail_placed q c.requires.1) (omega arith) (omega arith))
     ]
 
 pub returns : goal.returns
 returns c =
-    let rows = c.args.rows.now in
+    let rows = c.args.self.now in
     let p = c.args.one in
     let q = c.args.two in
-    let hp = c.requires.within.0 in
-    let hq = c.requires.within.1 in
+    let hp = c.requires.0 in
+    let hq = c.requires.1 in
     tells_same c.parted-2.result (heads_part rows p q)
     (heads_left rows p q c.if-arrows_clash.ensures
     (c.if-parted.ensures (mark (2 * p) 1) (mark (2 * q) 1) (tail_placed p hp) (tail_placed q hq) (omega arith) (omega arith)))

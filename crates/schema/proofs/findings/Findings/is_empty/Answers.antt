@@ -1,18 +1,29 @@
-use Rattle.std.proofs.Common.{⊎_elim}
+use Rattle.std.proofs.Common.{⊎_elim, List, ◌∙◌, subst}
+use Rattle.schema.specs.declared.row.Row.{Row}
+use Rattle.schema.specs.Keys.{descriptions_apart, TornBy}
+use Rattle.schema.proofs.Finds.{found_as}
 use Rattle.schema.proofs.Emptied.{torn_empties, marked_empties, empty_marked}
 use Rattle.schema.proofs.Signs.{tells_same, tells_true}
 use Rattle.schema.proofs.findings.Findings.is_empty.Goals as goal
 
 pub returns-then-torn : goal.returns-then-torn
 returns-then-torn c d h told =
+    let it = c.self.inside in
+    let rows = c.args.self.now in
+    let found = found_as c.self.view_is c.self.invariant in
+    let sound = found.sound in
+    let torn = subst (λ (rs : List Row). TornBy descriptions_apart rs c.args.marks.now c.args.marks.now) (c.deref.ensures.0 ∙ c.self.view_is) c.if-torn.ensures in
     tells_true c.if-torn.true
-    (torn_empties c.args.rows.now c.requires.sound d c.args.marks.now c.args.self.now.empty told c.requires.found.empty c.if-torn.ensures)
+    (torn_empties rows sound d c.args.marks.now it.empty told found.keys torn)
 
 pub returns-else-torn : goal.returns-else-torn
 returns-else-torn c d h told =
-    let rows = c.args.rows.now in
+    let it = c.self.inside in
+    let rows = c.args.self.now in
+    let found = found_as c.self.view_is c.self.invariant in
+    let sound = found.sound in
+    let torn = subst (λ (rs : List Row). TornBy descriptions_apart rs c.args.marks.now c.args.marks.now → ⊥) (c.deref.ensures.0 ∙ c.self.view_is) c.if-torn.ensures in
     let marks = c.args.marks.now in
-    let empty = c.args.self.now.empty in
-    tells_same c.marks_empty.result (marked_empties rows c.requires.sound d marks empty told c.requires.found.empty)
-    (λ z. ⊎_elim (λ t. absurd (c.if-torn.ensures t)) (λ m. m) (empty_marked rows c.requires.sound d marks empty told c.requires.found.empty h z))
+    tells_same c.marks_empty.result (marked_empties rows sound d marks it.empty told found.keys)
+    (λ z. ⊎_elim (λ t. absurd (torn t)) (λ m. m) (empty_marked rows sound d marks it.empty told found.keys h z))
     c.marks_empty.ensures

@@ -1,0 +1,16 @@
+//! The table of what a point of a web leads to.
+ghost use Rattle.std.specs.Prelude.{◌≤◌};
+ghost use Rattle.search.specs.Leads.{Marked};
+
+use crate::arrows::mark_all;
+use search::web::Web;
+
+/// A byte for each point, 1 where the start leads to it.
+pub(crate) fn marked<W: Web, const N: usize>(web: &W, start: usize) -> [u8; N]
+    requires { W.Web.size web.now ≤ N }
+    ensures { Marked (W.Web.size web.now) (W.Web.link web.now) start result }
+{
+    let mut marks = [0; N];
+    mark_all(web, start, &mut marks);
+    marks
+}
