@@ -40,6 +40,13 @@ impl TextSheet {
             },
         }
     }
+
+    /// Its rows, in their order.
+    pub fn rows(&self) -> &[Row]
+        ensures { result.now ≡ (text_shows self.now).rows }
+    {
+        self.rows.as_slice()
+    }
 }
 
 impl Sheet for TextSheet {
