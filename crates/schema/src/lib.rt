@@ -27,6 +27,7 @@ pub mod row;
 mod set64;
 pub mod sheet;
 mod table;
+mod tally;
 #[cfg(test)]
 mod tests;
 pub mod text;
