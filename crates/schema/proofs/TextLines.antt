@@ -1,6 +1,6 @@
 -- A text from its lines.
 use Rattle.std.proofs.Common.{◌≡◌, ℕ, suc, ◌+◌, ◌*◌, ◌<◌, ◌≤◌, List, [], ◌∷◌, ◌++◌, length, get_or, take, drop, sym, refl, ap, ◌∙◌, subst, inl, inr, arith, length-append, length-drop, drop-drop, below_more}
-use Rattle.std.proofs.lemmas.List.{take-append-drop, nil_from_length, get_or_append_left, get_or_push}
+use Rattle.std.proofs.lemmas.List.{take-append-drop, nil_from_length, get_or_append_left, get_or_push, take_at, drop_at}
 use Rattle.schema.specs.declared.row.Row.{Row}
 use Rattle.schema.specs.declared.faults.LineFault.{LineFault}
 use Rattle.schema.specs.declared.faults.TextFault.TheVariants.{Line}
@@ -10,9 +10,19 @@ use Rattle.schema.specs.Texts.{line_at, row_line, row_lines, IsText, Heads, Unti
 use Rattle.schema.specs.Columns.{head_line, LineFaulty, out_of_form, unsound, Headed, RowsRead, blank_row}
 
 -- what line 1 tells, from what was read of it
-pub heads_from : (text l : List ℕ) (c p n : ℕ) → 14 ≤ length text → l ≡ line_at text 0
-    → (c ≤ 9999) × (p ≤ 9999) × (n ≤ 9999) × (l ≡ head_line c p n) → Heads text c p n
-heads_from text l c p n h e (hc, hp, hn, s) = record { long = h; c_fits = hc; p_fits = hp; n_fits = hn; first = sym e ∙ s }
+pub heads_from : (text : List ℕ) (c p n : ℕ) → 14 ≤ length text → (c ≤ 9999) × (p ≤ 9999) × (n ≤ 9999) × (line_at text 0 ≡ head_line c p n) → Heads text c p n
+heads_from text c p n h (hc, hp, hn, s) = record { long = h; c_fits = hc; p_fits = hp; n_fits = hn; first = s }
+
+-- the first line of what is left after line n, and what is left after that
+pub next_line : (text rest line after : List ℕ) (m n : ℕ) → length text ≡ 14 * (m + 1) → rest ≡ drop (14 * (n + 1)) text → rest ≡ line ++ after → length line ≡ 14
+    → (n < m) × (line ≡ line_at text (n + 1)) × (after ≡ drop (14 * ((n + 1) + 1)) text)
+next_line text rest line after m n total e f long =
+    let left : line ++ after ≡ drop (14 * (n + 1)) text = sym f ∙ e in
+    let next : 14 * (n + 1) + 14 ≡ 14 * ((n + 1) + 1) = omega arith in (
+      omega (arith, simp (length-append, length-drop) at (ap length left)),
+      sym (take_at line after 14 long) ∙ ap (take 14) left,
+      sym (drop_at line after 14 long) ∙ ap (drop 14) left ∙ drop-drop 14 (14 * (n + 1)) text ∙ ap (λ k. drop k text) next,
+    )
 
 -- the rows read so far, and the line that comes next
 pub until_from : (text : List ℕ) (c p n i : ℕ) (rows : List Row) → Headed text c p n → i < n → length rows ≡ i → RowsRead text c p rows → Until text c p n i

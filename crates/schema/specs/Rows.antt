@@ -5,7 +5,8 @@
 --   Unsound       the lowest unsound field of a row: 1 letter, 2 a, 3 b, 4 n
 --   ◌∈◌           one of a list
 --   AllSound      every row of a list is sound
-use Rattle.std.specs.Prelude.{◌≡◌, ℕ, ◌*◌, ◌<◌, ◌≤◌, cond, ◌⊎◌, List, [], ◌∷◌, Some, None, Option, ◌==◌}
+use Rattle.std.specs.List.{find}
+use Rattle.std.specs.Prelude.{◌≡◌, ℕ, ◌*◌, ◌<◌, ◌≤◌, ◌⊎◌, List, [], ◌∷◌, Some, None, Option, ◌==◌}
 use Rattle.schema.specs.declared.row.Row.{Row}
 use Rattle.schema.specs.declared.letters.Kind.{Kind}
 use Rattle.schema.specs.declared.letters.Kind.TheVariants.{Class, Arrow, End}
@@ -25,8 +26,7 @@ shapes =
 
 -- the line of a table that has the letter
 abbrev pub shape_in : ℕ → List Shape → Option Shape
-shape_in x [] = None
-shape_in x (s ∷ ss) = cond (s.letter == x) (Some s) (shape_in x ss)
+shape_in x = find (λ s. s.letter == x)
 
 abbrev pub shape_of : ℕ → Option Shape
 shape_of x = shape_in x shapes

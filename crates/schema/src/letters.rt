@@ -1,6 +1,6 @@
 //! The seven letters of a row, and which fields are sound under each.
 ghost use Rattle.std.specs.Prelude.{◌≡◌, ◌*◌, MatchOption};
-ghost use Rattle.schema.specs.Rows.{shapes, shape_in, shape_of, limit, Sound, Unsound};
+ghost use Rattle.schema.specs.Rows.{shapes, shape_of, limit, Sound, Unsound};
 
 use crate::row::Row;
 
@@ -79,8 +79,7 @@ pub const SHAPES: [Shape; 7] = [
 pub fn shape_of(letter: u8) -> Option<Shape>
     ensures { result ≡ shape_of letter }
 {
-    let table = SHAPES;
-    find(&table, letter)
+    SHAPES.iter().find(|shape| shape.letter == letter).copied()
 }
 
 /// The first field of the row, from 1 for the letter to 4 for n, that is unsound for these counts.
@@ -111,15 +110,4 @@ fn bound(kind: Kind, classes: u16, arrows: u16) -> u32
         Kind::Arrow => u32::from(arrows),
         Kind::End => 2 * u32::from(arrows),
     }
-}
-
-fn find(table: &[Shape], letter: u8) -> Option<Shape>
-    ensures { result ≡ shape_in letter table.now }
-{
-    for shape in table {
-        if shape.letter == letter {
-            return Some(*shape);
-        }
-    }
-    None
 }

@@ -30,6 +30,7 @@ mod set64;
 pub mod sheet;
 mod sound_sheet;
 mod table;
+mod tally;
 #[cfg(test)]
 mod tests;
 pub mod text;

@@ -1,5 +1,5 @@
 //! Lines: a letter, three numbers of four columns each and a line feed.
-ghost use Rattle.std.specs.Prelude.{◌≡◌, ℕ, ◌+◌, ◌≤◌, ◌++◌, length, MatchResult};
+ghost use Rattle.std.specs.Prelude.{◌≡◌, ℕ, ◌+◌, ◌≤◌, true, false, length, Decides, MatchResult};
 ghost use Rattle.schema.specs.Rows.{Sound};
 ghost use Rattle.schema.specs.Texts.{row_line, BadColumn, RowLetter};
 ghost use Rattle.schema.specs.Texts.{Header as HeaderLetter};
@@ -35,11 +35,11 @@ pub(crate) fn header_line(bytes: &[u8]) -> Result<Header, LineFault>
     requires { length bytes.now ≡ 14 }
     ensures { MatchResult result (λ h. (h.classes ≤ 9999) × (h.arrows ≤ 9999) × (h.rows ≤ 9999) × (bytes.now ≡ head_line h.classes h.arrows h.rows)) (λ e. (k : ℕ) × (e ≡ Form (record { line = 1; column = k })) × BadColumn HeaderLetter bytes.now k) }
 {
-    let [letter, a0, a1, a2, a3, rest @ ..] = bytes else {
+    let [letter, numbers @ ..] = bytes else {
         unreachable()
     };
-    header_letter(*letter)?;
-    let (classes, arrows, rows) = read_numbers([*a0, *a1, *a2, *a3], rest, 1)?;
+    expect(*letter == b'H', 1, LETTER)?;
+    let (classes, arrows, rows) = read_numbers(numbers, 1)?;
     Ok(Header {
         classes,
         arrows,
@@ -47,67 +47,60 @@ pub(crate) fn header_line(bytes: &[u8]) -> Result<Header, LineFault>
     })
 }
 
-/// The line of a row, which is in form and sound for these counts.
-pub(crate) fn row_line(bytes: &[u8], line: u16, classes: u16, arrows: u16) -> Result<Row, LineFault>
+/// The line of a row, which is in form and sound for the counts of the header.
+pub(crate) fn row_line(bytes: &[u8], line: u16, header: Header) -> Result<Row, LineFault>
     requires { length bytes.now ≡ 14 }
-    ensures { MatchResult result (λ row. (bytes.now ≡ row_line row) × Sound classes arrows row) (λ e. LineFaulty bytes.now line classes arrows e) }
+    ensures { MatchResult result (λ row. (bytes.now ≡ row_line row) × Sound header.classes header.arrows row) (λ e. LineFaulty bytes.now line header.classes header.arrows e) }
 {
-    let [letter, a0, a1, a2, a3, rest @ ..] = bytes else {
+    let [letter, numbers @ ..] = bytes else {
         unreachable()
     };
-    row_letter(*letter, line)?;
-    let (a, b, n) = read_numbers([*a0, *a1, *a2, *a3], rest, line)?;
+    expect(begins_row(*letter), line, LETTER)?;
+    let (a, b, n) = read_numbers(numbers, line)?;
     let row = Row {
         letter: *letter,
         a,
         b,
         n,
     };
-    match unsound_field(row, classes, arrows) {
+    match unsound_field(row, header.classes, header.arrows) {
         Some(field) => Err(LineFault::UnsoundLine { line, field }),
         None => Ok(row),
     }
 }
 
-// The letter of the first line.
-fn header_letter(letter: u8) -> Result<(), ColumnFault>
-    ensures { MatchResult result (λ _. HeaderLetter letter) (λ e. (e ≡ record { line = 1; column = 1 }) × (HeaderLetter letter → ⊥)) }
+// Whether a letter is one of those that begin the line of a row.
+fn begins_row(letter: u8) -> bool
+    ensures { Decides result (RowLetter letter) }
 {
     match letter {
-        b'H' => Ok(()),
-        _ => Err(ColumnFault {
-            line: 1,
-            column: LETTER,
-        }),
+        b'S' | b'X' | b'D' | b'F' | b'K' | b'P' | b'Q' => true,
+        _ => false,
     }
 }
 
-// The letter of a row's line.
-fn row_letter(letter: u8, line: u16) -> Result<(), ColumnFault>
-    ensures { MatchResult result (λ _. RowLetter letter) (λ e. (e ≡ record { line = line; column = 1 }) × (RowLetter letter → ⊥)) }
+// Passes a column that is as it should be.
+fn expect(good: bool, line: u16, column: u16) -> Result<(), ColumnFault>
+    ensures { MatchResult result (λ _. good ≡ true) (λ e. (e ≡ record { line = line; column = column }) × (good ≡ false)) }
 {
-    match letter {
-        b'S' | b'X' | b'D' | b'F' | b'K' | b'P' | b'Q' => Ok(()),
-        _ => Err(ColumnFault {
-            line,
-            column: LETTER,
-        }),
+    if good {
+        Ok(())
+    } else {
+        Err(ColumnFault { line, column })
     }
 }
 
-// The three numbers of a line, from its first group and what comes after that.
-fn read_numbers(first: [u8; 4], rest: &[u8], line: u16) -> Result<(u16, u16, u16), ColumnFault>
-    requires { (length first ≡ 4) × (length rest.now ≡ 9) }
-    ensures { MatchResult result (λ x. (x.0 ≤ 9999) × (x.1 ≤ 9999) × (x.2 ≤ 9999) × (first ++ rest.now ≡ tail x.0 x.1 x.2)) (λ e. (k : ℕ) × (e ≡ record { line = line; column = k + 2 }) × Strays Tail (first ++ rest.now) k) }
+// The three numbers of a line and its line feed, which come after its letter.
+fn read_numbers(bytes: &[u8], line: u16) -> Result<(u16, u16, u16), ColumnFault>
+    requires { length bytes.now ≡ 13 }
+    ensures { MatchResult result (λ x. (x.0 ≤ 9999) × (x.1 ≤ 9999) × (x.2 ≤ 9999) × (bytes.now ≡ tail x.0 x.1 x.2)) (λ e. (k : ℕ) × (e ≡ record { line = line; column = k + 2 }) × Strays Tail bytes.now k) }
 {
-    let [b0, b1, b2, b3, n0, n1, n2, n3, feed] = rest else {
+    let [a0, a1, a2, a3, b0, b1, b2, b3, n0, n1, n2, n3, feed] = bytes else {
         unreachable()
     };
-    let a = read_group(first, line, FIRST)?;
+    let a = read_group([*a0, *a1, *a2, *a3], line, FIRST)?;
     let b = read_group([*b0, *b1, *b2, *b3], line, SECOND)?;
     let n = read_group([*n0, *n1, *n2, *n3], line, THIRD)?;
-    if *feed != b'\n' {
-        return Err(ColumnFault { line, column: FEED });
-    }
+    expect(*feed == b'\n', line, FEED)?;
     Ok((a, b, n))
 }

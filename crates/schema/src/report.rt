@@ -8,6 +8,7 @@ use crate::faults::{Notice, ReportFault};
 use crate::limits::{LINE_BYTES, MOST_ARROWS, MOST_CLASSES};
 use crate::printing::{put_line, put_names};
 use crate::sheet::Sheet;
+use crate::tally::count_ones;
 use crate::text_sheet::TextSheet;
 use crate::verdict::verdict;
 
@@ -61,22 +62,14 @@ fn list(bytes: &mut [u8], classes: &[u8], arrows: &[u8]) -> usize
     requires { (length classes.now ≤ 64) × ((length arrows.now ≤ 32) × (1358 ≤ length bytes.old)) }
     ensures { Begun (listing (ones_from 0 classes.now) (ones_from 0 arrows.now)) bytes.old result bytes.new }
 {
-    put_line(bytes, 0, b'V', ones(classes), ones(arrows), 0);
+    put_line(
+        bytes,
+        0,
+        b'V',
+        count_ones(classes) as u16,
+        count_ones(arrows) as u16,
+        0,
+    );
     let end = put_names(bytes, LINE_BYTES, b'C', classes);
     put_names(bytes, end, b'A', arrows)
-}
-
-// How many bytes of a table are 1.
-fn ones(table: &[u8]) -> u16
-    requires { length table.now ≤ 64 }
-    ensures counted { result ≡ length (ones_from 0 table.now) }
-    ensures few { result ≤ length table.now }
-{
-    let mut count = 0;
-    for byte in table {
-        if *byte == 1 {
-            count += 1;
-        }
-    }
-    count
 }

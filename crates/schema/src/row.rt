@@ -3,6 +3,7 @@
 /// One letter and three numbers; what they mean is told by the letter (see `letters`).
 #[derive(Clone, Copy, PartialEq, Eq, Debug, Default)]
 pub struct Row {
+    /// Any byte, since a row may be unsound.
     pub letter: u8,
     pub a: u16,
     pub b: u16,

@@ -1,7 +1,7 @@
 //! Reading a text, line by line.
-ghost use Rattle.std.specs.Prelude.{◌≡◌, ◌+◌, ◌*◌, ◌≤◌, length, MatchResult};
+ghost use Rattle.std.specs.Prelude.{◌≡◌, MatchResult};
 ghost use Rattle.arrayvec.specs.ArrayVec.{array_vec_len};
-ghost use Rattle.schema.specs.Texts.{TextFaulty, line_at};
+ghost use Rattle.schema.specs.Texts.{TextFaulty};
 ghost use Rattle.schema.specs.Columns.{Headed, RowsRead};
 ghost use Rattle.schema.specs.TextSheets.{text_shows, text_bounded, TextRead, TextShown};
 
@@ -39,6 +39,13 @@ impl TextSheet {
                 rows: ArrayVec::new(),
             },
         }
+    }
+
+    /// Its rows, in their order.
+    pub fn rows(&self) -> &[Row]
+        ensures { result.now ≡ (text_shows self.now).rows }
+    {
+        self.rows.as_slice()
     }
 }
 
@@ -80,7 +87,7 @@ fn read_header(text: &[u8]) -> Result<Header, TextFault>
     if text.len() < LINE_BYTES {
         return Err(TextFault::TooShort);
     }
-    let header = header_line(line_at(text, 0))?;
+    let header = header_line(&text[..LINE_BYTES])?;
     let len = usize::from(header.rows);
     if header.classes > MOST_CLASSES || header.arrows > MOST_ARROWS || len > MOST_ROWS {
         return Err(TextFault::TooLarge);
@@ -97,19 +104,10 @@ fn read_rows(text: &[u8], header: Header) -> Result<ArrayVec<Row, MOST_ROWS>, Te
     ensures { MatchResult result (λ rows. (array_vec_len rows ≡ header.rows) × RowsRead text.now header.classes header.arrows rows.items) (λ f. TextFaulty text.now f) }
 {
     let mut rows = ArrayVec::new();
-    for i in 0..usize::from(header.rows) {
+    for (i, line) in text[LINE_BYTES..].chunks_exact(LINE_BYTES).enumerate() {
         let number = (i + 2) as u16;
-        let row = row_line(line_at(text, i + 1), number, header.classes, header.arrows)?;
+        let row = row_line(line, number, header)?;
         rows.push(row);
     }
     Ok(rows)
-}
-
-// Line i, from 0.
-fn line_at(text: &[u8], i: usize) -> &[u8]
-    requires { 14 * (i + 1) ≤ length text.now }
-    ensures { (result.now ≡ line_at text.now i) × (length result.now ≡ 14) }
-{
-    let start = LINE_BYTES * i;
-    &text[start..start + LINE_BYTES]
 }

@@ -1,17 +1,28 @@
-use Rattle.std.proofs.Common.{sym, ◌∙◌, subst, arith}
+use Rattle.std.proofs.Common.{◌≡◌, ◌+◌, ◌*◌, drop, length, sym, ap, ◌∙◌, subst, arith}
 use Rattle.std.proofs.lemmas.Result.{err_from_is_err_and}
 use Rattle.schema.specs.Columns.{RowsRead}
-use Rattle.schema.proofs.TextLines.{until_from, faulty_from, rows_more}
+use Rattle.schema.proofs.TextLines.{until_from, faulty_from, next_line, rows_more}
 use Rattle.schema.proofs.text_sheet.reading.read_rows.Goals as goal
 
 pub returns-in_err-row : goal.returns-in_err-row
 returns-in_err-row c =
     let p = err_from_is_err_and c.from_residual.result c.from_residual.ensures.1 in
-    let q = c.in_err-row.ensures in
-    rw (p.1, p.2) (faulty_from _ _ _ _ _ c.loop-i.i _ (until_from c.args.text.now _ _ _ c.loop-i.i c.loop-i.rows.items c.requires (omega arith) c.loop-i.invariant.0 c.loop-i.invariant.1) c.line_at.ensures.0 q)
+    let text = c.args.text.now in
+    let read = c.loop-i.invariant in
+    let h = c.in-Some.ensures.steps in
+    let n = length c.loop-i.rows.items in
+    let l = next_line text _ c.in-Some.line.now _ c.args.header.rows n c.requires.long read.2 h.0.1.0 (h.0.1.1 ∙ read.1) in
+    let number : c.in-Some.i + 2 ≡ n + 2 = omega (arith, h.1, read.0) in
+    rw (p.1, p.2) (faulty_from text _ _ _ _ n _ (until_from text _ _ _ n c.loop-i.rows.items c.requires l.0 (omega arith) read.3) l.1 (rw number at c.in_err-row.ensures))
 
 pub loop-i-preserved : goal.loop-i-preserved
 loop-i-preserved c =
+    let text = c.args.text.now in
+    let read = c.loop-i.invariant in
+    let h = c.in-Some.ensures.steps in
     let q = c.in_ok-row.ensures in
-    let grown = rows_more c.args.text.now _ _ c.loop-i.rows.items c.loop-i.i _ c.loop-i.invariant.0 c.loop-i.invariant.1 (sym c.line_at.ensures.0 ∙ q.0, q.1) in
-    (omega arith, subst (RowsRead c.args.text.now c.args.header.classes c.args.header.arrows) (sym c.push.ensures.items) grown)
+    let n = length c.loop-i.rows.items in
+    let l = next_line text _ c.in-Some.line.now _ c.args.header.rows n c.requires.long read.2 h.0.1.0 (h.0.1.1 ∙ read.1) in
+    let grown = rows_more text _ _ c.loop-i.rows.items n _ (omega arith) read.3 (sym l.1 ∙ q.0, q.1) in
+    let len : length c.push.new.self.items ≡ n + 1 = omega arith in
+    (omega (arith, h.2), h.0.0 ∙ read.1, l.2 ∙ ap (λ k. drop (14 * (k + 1)) text) (sym len), subst (RowsRead text c.args.header.classes c.args.header.arrows) (sym c.push.ensures.items) grown)
