@@ -10,7 +10,7 @@ use crate::faults::{CheckFault, SheetFault};
 use crate::letters::unsound_field;
 use crate::limits::{MOST_ARROWS, MOST_CLASSES, MOST_ROWS};
 use crate::row::Row;
-use crate::set64::{has_member, with_member};
+use crate::set64::Set64;
 use crate::sheet::Sheet;
 
 /// Copies the rows of a sheet that is within the limits, and tells their number.
@@ -63,7 +63,7 @@ fn check_caps(rows: &[Row], classes: u16, arrows: u16) -> Result<(), CheckFault>
 {
     let shared = shared_arrows(rows);
     for (k, row) in rows.iter().enumerate() {
-        if row.letter == b'K' && has_member(shared, row.b as usize / 2) {
+        if row.letter == b'K' && shared.has(row.b as usize / 2) {
             return Err(CheckFault::Capped { row: k as u16 });
         }
     }
@@ -72,14 +72,14 @@ fn check_caps(rows: &[Row], classes: u16, arrows: u16) -> Result<(), CheckFault>
 
 /// The set of the arrows that another arrow leads to. The last link of a way from elsewhere is a row of its own, so
 /// the rows that lead straight to an arrow tell.
-pub(crate) fn shared_arrows(rows: &[Row]) -> u64
+pub(crate) fn shared_arrows(rows: &[Row]) -> Set64
     requires { AllSound 64 32 rows.now }
     ensures { Shared rows.now result }
 {
-    let mut shared = 0;
+    let mut shared = Set64::EMPTY;
     for row in rows {
         if row.letter == b'P' && row.a != row.b {
-            shared = with_member(shared, row.b as usize);
+            shared.insert(row.b as usize);
         }
     }
     shared

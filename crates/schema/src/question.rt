@@ -11,7 +11,6 @@ use crate::findings::Findings;
 use crate::letters::unsound_field;
 use crate::limits::MOST_ROWS;
 use crate::row::{BLANK, Row};
-use crate::set64::has_member;
 use crate::sheet::Sheet;
 
 /// Answers whether every world that fulfils the rows of a sheet fulfils the asked row too.
@@ -48,7 +47,7 @@ fn uncountable(rows: &[Row], asked: Row) -> bool
     ensures { Tells result (Uncountable rows.now asked) }
 {
     if asked.letter == b'F' && asked.n >= 2 {
-        has_member(shared_arrows(rows), asked.b as usize / 2)
+        shared_arrows(rows).has(asked.b as usize / 2)
     } else {
         false
     }

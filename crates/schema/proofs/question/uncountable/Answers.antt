@@ -11,7 +11,7 @@ pub returns-then-asked-ge2 : goal.returns-then-asked-ge2
 returns-then-asked-ge2 c =
     let r = c.args.asked in
     let rows = c.args.rows.now in
-    tells_same c.has_member.result
+    tells_same c.has.result
     (λ (s : Alone rows (arrow r.b) → ⊥). (r.a, r.b, r.n, sym (row_is r 70 r.a r.b r.n c.if-asked-eq70.true refl refl refl), c.if-asked-ge2.true, s))
     (λ u. subst (λ (e : ℕ). Alone rows (arrow e) → ⊥) (sym (ap (λ (x : Row). x.b) u.3)) u.5)
-    (member_tells rows c.shared_arrows.result c.shared_arrows.ensures c.has_member.result (arrow r.b) c.has_member.ensures)
+    (member_tells rows c.shared_arrows.result c.shared_arrows.ensures c.has.result (arrow r.b) c.has.ensures)

@@ -7,7 +7,6 @@ use Rattle.schema.proofs.verdict.judge.Goals as goal
 pub empty_keys-empty-requires : goal.empty_keys-empty-requires
 empty_keys-empty-requires c =
     record {
-      few = c.requires.small.few_rows;
       sound = sound_more c.args.classes c.args.arrows c.args.rows.now c.requires.small.few_classes c.requires.small.few_arrows c.requires.sound;
       uncapped = c.requires.uncapped;
     }
