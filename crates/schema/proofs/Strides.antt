@@ -1,5 +1,5 @@
 -- Numbers at a stride.
-use Rattle.std.proofs.Common.{◌≡◌, ℕ, zero, ◌+◌, ◌-◌, ◌*◌, ◌/◌, ◌<◌, ◌≤◌, Some, None, Option, sym, refl, ap, ◌∙◌, subst, arith}
+use Rattle.std.proofs.Common.{◌≡◌, ℕ, ◌+◌, ◌-◌, ◌*◌, ◌/◌, ◌<◌, ◌≤◌, Some, None, refl, arith}
 use Rattle.std.proofs.Math.Nat.{lt-mul-div-succ, div-lt_iff_lt-mul, mul-le-mul_left, lt_of_mul-lt-mul_left}
 use Rattle.search.specs.Leads.{NextLink}
 use Rattle.schema.specs.Masks.{Member, Strided}

@@ -23,7 +23,7 @@ pub(crate) struct Descriptions {
     // of a class: the ends that it needs
     pub(crate) needs: [Set64; 64],
     // at 64·a + e: how often class a needs the end e, at most
-    pub(crate) counts: [u8; 4096],
+    pub(crate) counts: [u16; 4096],
     // of an end: the classes that what has it lies in
     pub(crate) domains: [Set64; 64],
     // of an arrow: the arrows that it lies in
@@ -94,8 +94,7 @@ impl Descriptions {
         if first >= at {
             return Some(first);
         }
-        let second = self.need_at(class, ends.next_from(at / 32 + 1)?);
-        Some(second)
+        Some(self.need_at(class, ends.next_from(at / 32 + 1)?))
     }
 
     // The point of the mark that the class needs at an end. The remainder is the count itself in every web of sound

@@ -22,6 +22,7 @@ use crate::set64::Set64;
 use search::web::Web;
 
 /// How many keys there are; the point of the same number leads to those that clash.
+// A key is a plain number, as the search wants it: an enum would only be made from it where each test now stands.
 pub(crate) const KEYS: usize = 128;
 
 /// The links between keys, of some rows, and what clashes.
@@ -172,6 +173,7 @@ impl Keys {
             ends: Set64::EMPTY,
             torn: false,
         }; KEYS];
+        // a loop, since the closure of array::from_fn would need the clauses of study once more
         for key in 0..KEYS {
             reaches[key] = web.study(key);
         }

@@ -34,7 +34,7 @@ fn needing_more(links: &Descriptions, end: usize, cap: u16) -> Set64
 {
     let mut found = Set64::EMPTY;
     for class in 0..64 {
-        if u16::from(links.counts[64 * class + end]) > cap {
+        if links.counts[64 * class + end] > cap {
             found.insert(class);
         }
     }

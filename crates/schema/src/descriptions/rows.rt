@@ -52,8 +52,8 @@ impl Descriptions {
         let end = usize::from(row.b);
         let place = 64 * class + end;
         self.needs[class].insert(end);
-        if u16::from(self.counts[place]) < row.n {
-            self.counts[place] = row.n as u8;
+        if self.counts[place] < row.n {
+            self.counts[place] = row.n;
         }
     }
 }

@@ -1,4 +1,4 @@
-use Rattle.std.proofs.Common.{◌≡◌, ℕ, ◌/◌, ◌%◌, ◌<◌, Option, sym, subst}
+use Rattle.std.proofs.Common.{ℕ, ◌/◌, ◌%◌, ◌<◌, Option, sym, subst}
 use Rattle.search.specs.Leads.{NextLink}
 use Rattle.schema.specs.declared.descriptions.Descriptions.{Descriptions}
 use Rattle.schema.specs.Points.{Ways, Onward}

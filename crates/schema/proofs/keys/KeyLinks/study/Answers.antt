@@ -1,4 +1,4 @@
-use Rattle.std.proofs.Common.{◌≡◌, ℕ, length, get_or, take, drop, subst, arith, length-take, length-drop}
+use Rattle.std.proofs.Common.{◌≡◌, ℕ, get_or, take, drop, subst, arith, length-take, length-drop}
 use Rattle.schema.specs.Masks.{Gathers}
 use Rattle.schema.proofs.Studied.{key_known}
 use Rattle.schema.proofs.keys.KeyLinks.study.Goals as goal

@@ -1,5 +1,5 @@
-use Rattle.std.proofs.Common.{◌≡◌, ℕ, ◌<◌, ◌≤◌, Some, None, Option, MatchOption, arith, rules}
-use Rattle.std.proofs.lemmas.Iterator.{first_from_Range, serves_from_Range}
+use Rattle.std.proofs.Common.{ℕ, ◌<◌, ◌≤◌, Some, None, Option, MatchOption, arith, rules}
+use Rattle.std.proofs.lemmas.Iterator.{first_from_Range}
 use Rattle.search.specs.Leads.{NextLink}
 use Rattle.schema.specs.declared.keys.Keys.{Keys}
 use Rattle.schema.specs.Keys.{Backward, is_torn, to_class, to_end, other_end}

@@ -1,5 +1,5 @@
 use Rattle.search.specs.Leads.{NextLink}
-use Rattle.std.proofs.Common.{ℕ, ◌<◌, Option, sym, subst}
+use Rattle.std.proofs.Common.{sym, subst}
 use Rattle.schema.specs.Masks.{Strided}
 use Rattle.schema.proofs.Strides.{strided_none, strided_some, strided_past}
 use Rattle.schema.proofs.set64.Set64.next_strided.Goals as goal

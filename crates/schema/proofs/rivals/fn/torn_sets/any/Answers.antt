@@ -1,4 +1,4 @@
-use Rattle.std.proofs.Common.{◌<◌, arith}
+use Rattle.std.proofs.Common.{arith}
 use Rattle.schema.proofs.rivals.fn.torn_sets.any.Goals as goal
 
 pub listed : goal.listed
