@@ -1,6 +1,7 @@
 -- Binary digits: of a union, of a single bit, of a shift, and below the trailing zeros.
-use Rattle.std.proofs.Common.{◌≡◌, ℕ, zero, suc, ◌+◌, ◌/◌, ◌%◌, ◌^◌, ◌<◌, ◌≤◌, min, max, sym, refl, ap, ◌∙◌, not-suc-le-zero, add-zero, add-suc, pow-suc, div-one, arith}
+use Rattle.std.proofs.Common.{◌≡◌, ℕ, zero, suc, ◌+◌, ◌/◌, ◌%◌, ◌^◌, ◌<◌, ◌≤◌, min, max, sym, refl, ap, ◌∙◌, ⊎_elim, not-suc-le-zero, add-zero, add-suc, pow-suc, div-one, arith}
 use lib.Bits.{bit_and, bit_or, and_step, or_step}
+use Rattle.std.proofs.lemmas.Bool.{cases_eq}
 use lib.Count.{count_trailing_zeros, under}
 use native.Mathlib.Nat.{pow-succ', div-div-eq-div-mul}
 use Rattle.schema.specs.Masks.{bit}
@@ -70,3 +71,11 @@ bit_and_lem zero a b = omega (arith, and_step a b)
 bit_and_lem (suc k) a b =
     let e : bit_and a b / 2 ≡ bit_and (a / 2) (b / 2) = omega (arith, and_step a b) in
     ap (bit k) e ∙ bit_and_lem k (a / 2) (b / 2)
+
+-- a word that is not 0 has a digit set
+pub bit_some : (n m : ℕ) → m < 2 ^ n → (m ≡ 0 → ⊥) → (k : ℕ) × (k < n) × (bit k m ≡ 1)
+bit_some zero m l h = absurd (h (omega arith))
+bit_some (suc n) m l h =
+    ⊎_elim (λ (e : m % 2 ≡ 1). (0, omega arith, e))
+    (λ (e : m % 2 ≡ 1 → ⊥). let r = bit_some n (m / 2) (omega (arith, pow-suc 2 n)) (λ z. h (omega arith)) in (suc r.0, omega (arith, r.1), r.2))
+    (cases_eq (m % 2) 1)

@@ -1,6 +1,7 @@
 -- The sets of a web after one more row.
 use Rattle.std.proofs.Common.{◌≡◌, ℕ, zero, suc, ◌+◌, ◌*◌, ◌<◌, ◌≤◌, ◌⊎◌, List, [], ◌∷◌, ◌++◌, length, get_or, set, replicate, sym, refl, ap, ◌∙◌, subst, inl, inr, ⊎_elim, arith, get_or-set_other, get_or-set_same}
 use Rattle.std.proofs.lemmas.Bool.{cases_eq}
+use Rattle.std.proofs.lemmas.List.{get_or_default}
 use Rattle.schema.specs.declared.row.Row.{Row}
 use Rattle.schema.specs.Masks.{bit, Member, Joins}
 use Rattle.schema.specs.Rows.{◌∈◌, shape_of, Fits, Sound}
@@ -37,11 +38,19 @@ module _ (sets : List ℕ) (a b v : ℕ) (within : a < length sets) (joins : Joi
       subst (λ (s : ℕ). Member s y) (sym (ap (λ (i : ℕ). get_or (set sets a v) i 0) e ∙ get_or-set_same sets a v 0 within))
       (subst (Member v) (sym k) joins.new)
 
+-- a member that joins a set, said of equal places
+pub joins_at : (sets : List ℕ) (a x b y d v : ℕ) → a ≡ x → b ≡ y → x < length sets → Joins (get_or sets a d) b v → Joins (get_or sets x 0) y v
+joins_at sets a x b y d v p q w j =
+    subst (λ (k : ℕ). Joins (get_or sets x 0) k v) q
+    (subst (λ (m : ℕ). Joins m b v) (ap (λ (i : ℕ). get_or sets i d) p ∙ get_or_default sets x d 0 w) j)
+
 -- one more row of the letter
-pub told_more : (l : ℕ) (sets : List ℕ) (rows : List Row) (r : Row) (v : ℕ) → r.letter ≡ l → r.n ≡ 0 → r.a < length sets
-    → Joins (get_or sets r.a 0) r.b v → Told l sets rows → Told l (set sets r.a v) (rows ++ r ∷ [])
-told_more l sets rows r v e z w j t =
-    record {
+pub told_more : (l : ℕ) (sets : List ℕ) (rows : List Row) (r : Row) (a b d v : ℕ) → r.letter ≡ l → r.n ≡ 0 → a ≡ r.a → b ≡ r.b → r.a < length sets
+    → Joins (get_or sets a d) b v → Told l sets rows → Told l (set sets a v) (rows ++ r ∷ [])
+told_more l sets rows r a b d v e z p q w i t =
+    let j : Joins (get_or sets r.a 0) r.b v = joins_at sets a r.a b r.b d v p q w i in
+    subst (λ (x : ℕ). Told l (set sets x v) (rows ++ r ∷ [])) (sym p)
+    (record {
       only = λ a b m. ⊎_elim
           (λ (k : Member (get_or sets a 0) b). ∈_left (plain l a b) rows (r ∷ []) (t.only a b k))
           (λ (k : (a ≡ r.a) × (b ≡ r.b)). subst (λ (q : Row). q ∈ (rows ++ r ∷ [])) (sym (row_is r l a b 0 e (sym k.0) (sym k.1) z)) (∈_last r rows))
@@ -50,7 +59,7 @@ told_more l sets rows r v e z w j t =
           (λ (k : plain l a b ∈ rows). member_kept sets r.a r.b v w j a b (t.all a b k))
           (λ (k : plain l a b ≡ r). member_new sets r.a r.b v w j a b (ap (λ (q : Row). q.a) k) (ap (λ (q : Row). q.b) k))
           (∈_push (plain l a b) r rows m);
-    }
+    })
 
 -- one more row of another letter
 pub told_other : (l : ℕ) (sets : List ℕ) (rows : List Row) (r : Row) → (r.letter ≡ l → ⊥) → Told l sets rows → Told l sets (rows ++ r ∷ [])

@@ -7,11 +7,11 @@ use Rattle.schema.specs.declared.keys.Keys.{Keys}
 use Rattle.schema.specs.Masks.{Member}
 use Rattle.schema.specs.Rows.{AllSound}
 use Rattle.schema.specs.Rules.{arrow}
-use Rattle.schema.specs.Keys.{keyed, EmptyKeys, Torn, Surveyed, Backward, is_torn, to_class, to_end, other_end}
+use Rattle.schema.specs.Keys.{blank, keyed, EmptyKeys, Torn, Surveyed, Backward, is_torn, to_class, to_end, other_end}
 use Rattle.schema.specs.Verdicts.{Bit}
 use Rattle.schema.specs.Webs.{Description, mark, Link, ArrowLink, ArrowApart, Clashing, Name, desc, arr, Empty, EmptyClass, EmptyArrow, clash, leads, clash_arrow, of_end, of_arrow}
 use Rattle.schema.proofs.Reach.{leads_placed}
-use Rattle.schema.proofs.Signs.{bit_one, bit_holds, bit_same}
+use Rattle.schema.proofs.Signs.{bit_same, tells_yes, tells_holds}
 use Rattle.schema.proofs.KeyReach.{keyed_class, keyed_end, keyed_mark, keyed_placed}
 
 module _ (rows : List Row) (sound : AllSound 64 32 rows) (w : Keys) (known : Surveyed rows 128 w) where
@@ -33,7 +33,7 @@ module _ (rows : List Row) (sound : AllSound 64 32 rows) (w : Keys) (known : Sur
   torn_empty k (inr (h, c)) = subst (λ (d : Description). Empty rows (desc d)) (sym (keyed_end k h)) (of_arrow {e = k - 64} (clash_arrow c))
 
   back : (i j : ℕ) → Backward w i j → Good i → (j < 128) × EmptyKey j
-  back i j (is_torn e h t) g = (h, torn_empty j (bit_one (known j h).tears t))
+  back i j (is_torn e h t) g = (h, torn_empty j (tells_yes (known j h).tears t))
   back i j (to_class l h m) (inl e) = absurd (omega arith)
   back i j (to_class l h m) (inr (s, z)) =
       (h, leads ((known j h).to_classes.only i m) (subst (λ (d : Description). Empty rows (desc d)) (keyed_class i l) z))
@@ -58,7 +58,7 @@ module _ (rows : List Row) (sound : AllSound 64 32 rows) (w : Keys) (known : Sur
   step_to i k l h b = (l, omega arith, b)
 
   torn_doomed : (k : ℕ) → k < 128 → Torn rows k → Doomed k
-  torn_doomed k h t = leads_one (step_to 128 k (omega arith) h (is_torn refl h (bit_holds (known k h).tears t)))
+  torn_doomed k h t = leads_one (step_to 128 k (omega arith) h (is_torn refl h (tells_holds _ (known k h).tears t)))
 
   abbrev Fate : Name → Type 0
   Fate (desc u) = (k : ℕ) → k < 128 → Leads (Link rows) (keyed k) u → Doomed k
@@ -85,7 +85,7 @@ module _ (rows : List Row) (sound : AllSound 64 32 rows) (w : Keys) (known : Sur
           let small : e < 64 = p.0 in
           let d : Doomed (64 + e) = f (64 + e) (omega arith) (omega arith) (omega arith) in
           let same : e ≡ 64 + e - 64 = omega arith in
-          let m : Member (get_or w.ends k 0) (64 + e - 64) = subst (Member (get_or w.ends k 0)) same ((known k h).to_ends.all e small q) in
+          let m : Member (get_or w.reaches k blank).ends (64 + e - 64) = subst (Member (get_or w.reaches k blank).ends) same ((known k h).to_ends.all e small q) in
           leads_then d (step_to (64 + e) k (omega arith) h (to_end (omega arith) (omega arith) h m))
 
   -- the marks from the start say which keys are empty

@@ -1,21 +1,30 @@
 -- The lowest of which a fact holds.
-use Rattle.std.proofs.Common.{◌≡◌, ℕ, ◌<◌, ◌≤◌, min, ◌⊎◌, sym, subst, ⊎_elim, arith}
+use Rattle.std.proofs.Common.{◌≡◌, ℕ, ◌<◌, ◌≤◌, min, ◌⊎◌, Some, None, Option, sym, subst, ⊎_elim, arith}
 use Rattle.std.proofs.lemmas.Bool.{cases_lt}
-use Rattle.schema.specs.Masks.{Least}
+use Rattle.search.specs.Leads.{NextLink}
+use Rattle.schema.specs.Masks.{Lower}
 
--- the lowest of either is the lower of the two
-pub least_either : {n at r s m : ℕ} {A B C : ℕ → Type 0} → Least n A at r → Least n B at s → m ≡ min r s
-    → ((k : ℕ) → A k → C k) → ((k : ℕ) → B k → C k) → ((k : ℕ) → C k → A k ⊎ B k) → Least n C at m
-least_either {n} {at} {r} {s} {m} {A} {B} {C} a b e l k split =
-    record {
-      within = omega (arith, a.within, b.within);
-      from = λ h. ⊎_elim (λ (u : r < s). let q : m ≡ r = omega arith in let p : at ≤ r = a.from (omega arith) in omega arith)
-          (λ (u : s ≤ r). let q : m ≡ s = omega arith in let p : at ≤ s = b.from (omega arith) in omega arith) (cases_lt r s);
-      found = λ h. ⊎_elim (λ (u : r < s). let q : m ≡ r = omega arith in subst C (sym q) (l r (a.found (omega arith))))
-          (λ (u : s ≤ r). let q : m ≡ s = omega arith in subst C (sym q) (k s (b.found (omega arith)))) (cases_lt r s);
-      none = λ i h j c. ⊎_elim (λ x. a.none i h (omega arith) x) (λ y. b.none i h (omega arith) y) (split i c);
-    }
+module _ (n at : ℕ) where
+  -- a fact that says the same below n has the same lowest
+  pub next_same : (A B : ℕ → Type 0) (r : Option ℕ) → ((k : ℕ) → k < n → A k → B k) → ((k : ℕ) → k < n → B k → A k) → NextLink n A at r → NextLink n B at r
+  next_same A B None to from a = λ k h j b. a k h j (from k j b)
+  next_same A B (Some x) to from a = (a.0, a.1, to x a.1 a.2, λ k h j b. a.3 k h j (from k (omega (arith, a.1)) b))
 
--- a fact that says the same has the same lowest
-pub least_same : {n at r : ℕ} {A B : ℕ → Type 0} → Least n A at r → ((k : ℕ) → A k → B k) → ((k : ℕ) → B k → A k) → Least n B at r
-least_same a to from = record { within = a.within; from = a.from; found = λ h. to _ (a.found h); none = λ k h l b. a.none k h l (from k b) }
+  -- the lowest of either is the lower of the two
+  pub next_either : (A B C : ℕ → Type 0) (r s m : Option ℕ) → NextLink n A at r → NextLink n B at s → Lower r s m
+      → ((k : ℕ) → A k → C k) → ((k : ℕ) → B k → C k) → ((k : ℕ) → C k → A k ⊎ B k) → NextLink n C at m
+  next_either A B C None None m a b e l k split =
+      subst (NextLink n C at) (sym e) (λ i h j c. ⊎_elim (a i h j) (b i h j) (split i c))
+  next_either A B C None (Some y) m a b e l k split =
+      subst (NextLink n C at) (sym e)
+      (b.0, b.1, k y b.2, λ i h j c. ⊎_elim (λ x. a i h (omega (arith, b.1)) x) (λ x. b.3 i h j x) (split i c))
+  next_either A B C (Some x) None m a b e l k split =
+      subst (NextLink n C at) (sym e)
+      (a.0, a.1, l x a.2, λ i h j c. ⊎_elim (λ y. a.3 i h j y) (λ y. b i h (omega (arith, a.1)) y) (split i c))
+  next_either A B C (Some x) (Some y) m a b e l k split =
+      subst (NextLink n C at) (sym e) (
+        omega (arith, a.0, b.0),
+        omega (arith, a.1),
+        ⊎_elim (λ (u : x < y). let q : x ≡ min x y = omega arith in subst C q (l x a.2)) (λ (u : y ≤ x). let q : y ≡ min x y = omega arith in subst C q (k y b.2)) (cases_lt x y),
+        λ i h j c. ⊎_elim (λ z. a.3 i h (omega arith) z) (λ z. b.3 i h (omega arith) z) (split i c),
+      )

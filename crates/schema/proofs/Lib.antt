@@ -27,6 +27,7 @@ pub mod Rivalry
 pub mod RowLines
 pub mod Signs
 pub mod Splices
+pub mod Strides
 pub mod Studied
 pub mod TextLines
 pub mod Torn

@@ -49,7 +49,8 @@ module _ (rows : List Row) (w : Descriptions) (built : Built rows w) (sound : Al
 
   from_class_lem : (a j : ℕ) → Ways w a 0 j → Target (cls a) j
   from_class_lem a j (up e t) =
-      record { to = cls t.class; placed = t.small; is = t.is; linked = by_S (built.supers.only a t.class t.member) }
+      let has = built.supers.only a t.block t.member in
+      record { to = cls t.block; placed = (sound (row (S a t.block)) has).1; is = omega (arith, t.is); linked = by_S has }
   from_class_lem a j (need e t) =
       let n = get_or w.counts (64 * a + t.end) 0 in
       let pos : 0 < n = built.needs.some a t.end t.small t.member in
@@ -64,21 +65,23 @@ module _ (rows : List Row) (w : Descriptions) (built : Built rows w) (sound : Al
   from_mark_lem e m j h (up z t) = absurd (omega arith)
   from_mark_lem e m j h (need z t) = absurd (omega arith)
   from_mark_lem e m j h (domain z t) =
+      let has = built.domains.only e t.block t.member in
       record {
-        to = cls t.class;
-        placed = t.small;
-        is = t.is;
-        linked = subst (λ (x : ℕ). Link rows (mark e x) (cls t.class)) (sym z) (by_D (built.domains.only e t.class t.member));
+        to = cls t.block;
+        placed = (sound (row (D e t.block)) has).1;
+        is = omega (arith, t.is);
+        linked = subst (λ (x : ℕ). Link rows (mark e x) (cls t.block)) (sym z) (by_D has);
       }
   from_mark_lem e m j h (below l z) =
       record { to = mark e (m - 1); placed = (h.0, omega arith, omega arith); is = omega arith; linked = down (omega arith) (omega arith) }
   from_mark_lem e m j h (along l t) =
-      let f = 2 * t.arrow + side e in
-      let has : Has rows (P (arrow e) t.arrow) = built.overs.only (arrow e) t.arrow t.member in
-      let q : t.arrow ≡ arrow f = omega arith in
+      let f = 2 * t.block + side e in
+      let has : Has rows (P (arrow e) t.block) = built.overs.only (arrow e) t.block t.member in
+      let small = (sound (row (P (arrow e) t.block)) has).1 in
+      let q : t.block ≡ arrow f = omega arith in
       record {
         to = mark f m;
-        placed = (omega (arith, t.small), h.1, h.2);
+        placed = (omega (arith, small), h.1, h.2);
         is = omega (arith, t.is);
         linked = by_P {e = e} {f = f} {m = m} (subst (λ (x : ℕ). Has rows (P (arrow e) x)) q has) (omega arith);
       }
@@ -139,7 +142,7 @@ module _ (rows : List Row) (w : Descriptions) (built : Built rows w) (sound : Al
   link_way : {d u : Description} → Link rows d u → Placed d → Leads Step (point d) (point u)
   link_way (by_S {a} {b} h) k =
       let r = sound (row (S a b)) h in
-      leads_one (step_from_class a (32 * b) k (omega (arith, r.1)) (up refl (record { class = b; small = r.1; member = built.supers.all a b h; is = refl })))
+      leads_one (step_from_class a (32 * b) k (omega (arith, r.1)) (up refl (record { block = b; member = built.supers.all a b h; is = omega arith })))
   link_way (by_F {a} {e} {n} h) k =
       let r = sound (row (F a e n)) h in
       let m = get_or w.counts (64 * a + e) 0 in
@@ -151,12 +154,12 @@ module _ (rows : List Row) (w : Descriptions) (built : Built rows w) (sound : Al
       leads_both (leads_one (step_from_class a (32 * e + m) k (omega (arith, high.3)) (need refl (record { end = e; small = small; member = q.0; is = at })))) (lowers e m n f r.2 q.1)
   link_way (by_D {e} {b} h) k =
       let r = sound (row (D e b)) h in
-      leads_one (step_from_mark e 1 (32 * b) k (omega (arith, r.1)) (domain refl (record { class = b; small = r.1; member = built.domains.all e b h; is = refl })))
+      leads_one (step_from_mark e 1 (32 * b) k (omega (arith, r.1)) (domain refl (record { block = b; member = built.domains.all e b h; is = omega arith })))
   link_way (down {e} {m} {k = n} o l) k = lowers e m n k o (omega arith)
   link_way (by_P {e} {f} {m} h s) k =
       let r = sound (row (P (arrow e) (arrow f))) h in
       leads_one (step_from_mark e m (32 * f + m) k (omega arith)
-      (along k.1 (record { arrow = arrow f; small = r.1; member = built.overs.all (arrow e) (arrow f) h; is = omega arith })))
+      (along k.1 (record { block = arrow f; member = built.overs.all (arrow e) (arrow f) h; is = omega arith })))
 
   -- what the rows' web leads to, the code's web leads to
   pub reach_complete : {d u : Description} → Leads (Link rows) d u → Placed d → Leads Step (point d) (point u)

@@ -1,5 +1,5 @@
 -- A byte or a test that tells whether a fact holds.
-use Rattle.std.proofs.Common.{◌≡◌, ℕ, Bool, true, false, eqb, ◌⊎◌, sym, subst, inl, inr, ⊎_elim, arith}
+use Rattle.std.proofs.Common.{◌≡◌, ℕ, Bool, true, false, eqb, ◌⊎◌, sym, refl, subst, inl, inr, ⊎_elim, arith}
 use Rattle.std.proofs.lemmas.Bool.{eq-eqb, ne_eqb}
 use Rattle.schema.specs.Verdicts.{Bit, Tells}
 
@@ -31,6 +31,15 @@ tells_second false B none f = λ s. ⊎_elim none f s
 -- a test that is true
 pub tells_true : {b : Bool} {A : Type 0} → b ≡ true → A → Tells b A
 tells_true {b} {A} e a = subst (λ (t : Bool). Tells t A) (sym e) a
+
+-- a true test of a fact
+pub tells_yes : {b : Bool} {A : Type 0} → Tells b A → b ≡ true → A
+tells_yes {A = A} t e = subst (λ (b : Bool). Tells b A) e t
+
+-- a test whose fact holds
+pub tells_holds : (b : Bool) {A : Type 0} → Tells b A → A → b ≡ true
+tells_holds true t a = refl
+tells_holds false t a = absurd (t a)
 
 -- the test of a byte that is 1
 pub tells_one : (x : ℕ) {A : Type 0} → x ≡ 1 → A → Tells (eqb x 1) A

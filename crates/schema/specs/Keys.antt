@@ -1,15 +1,16 @@
 -- The descriptions that decide what is empty, and how the code finds it. For inner contracts: no call's promise
 -- rests on it.
-use Rattle.std.specs.Prelude.{◌≡◌, ℕ, ◌+◌, ◌-◌, ◌*◌, ◌/◌, ◌%◌, ◌<◌, ◌≤◌, cond, ◌⊎◌, List, length, get_or, Some, None, Option, ◌==◌, nat_lt, slice_index, slice_index_or}
+use Rattle.std.specs.Prelude.{◌≡◌, ℕ, ◌+◌, ◌-◌, ◌*◌, ◌/◌, ◌%◌, ◌<◌, ◌≤◌, true, false, cond, ◌⊎◌, List, Some, None, Option, ◌==◌, nat_lt, slice_index, slice_index_or}
 use Rattle.search.specs.Leads.{Leads}
 use Rattle.schema.specs.declared.row.Row.{Row}
 use Rattle.schema.specs.declared.arrows.Arrows.{Arrows}
 use Rattle.schema.specs.declared.descriptions.Descriptions.{Descriptions}
 use Rattle.schema.specs.declared.keys.KeyLinks.{KeyLinks}
 use Rattle.schema.specs.declared.keys.Keys.{Keys}
+use Rattle.schema.specs.declared.keys.Reach.{Reach}
 use Rattle.schema.specs.Points.{Built}
-use Rattle.schema.specs.Masks.{Member, Gathers}
-use Rattle.schema.specs.Verdicts.{Bit}
+use Rattle.schema.specs.Masks.{Member, Gathers, Meet}
+use Rattle.schema.specs.Verdicts.{Bit, Tells}
 use Rattle.schema.specs.Points.{point, Placed}
 use Rattle.schema.specs.Rows.{◌∈◌}
 use Rattle.schema.specs.Webs.{Description, cls, mark, Link, Apart, ArrowLink, ArrowApart, Clashing, Empty, desc}
@@ -57,24 +58,17 @@ pub data Rival (w : Descriptions) (r : Row) (b : ℕ) : Type 0 where
   apart : r.letter ≡ 88 → b ≡ r.b → Rival w r b
   needs_more : r.letter ≡ 75 → r.n < slice_index w.counts (64 * b + r.b) → Rival w r b
 
--- the rivals of each of the first n rows, for some tables that hold the rows
-abbrev pub RivalSets : List Row → ℕ → List ℕ → Type 0
-RivalSets rows n sets =
-    (w : Descriptions) × Built rows w × ((k : ℕ) → k < n → Gathers (Rival w (slice_index_or rows k (record { letter = 0; a = 0; b = 0; n = 0 }))) 64 (slice_index sets k))
+-- the rivals of each class, by the rows
+pub record RivalSets (w : Descriptions) (rows : List Row) (sets : List ℕ) : Type 0 where
+  pub only : (a b : ℕ) → Member (slice_index sets a) b → (r : Row) × (r ∈ rows) × (r.a ≡ a) × (b < 64) × Rival w r b
+  pub all : (r : Row) (b : ℕ) → r ∈ rows → b < 64 → Rival w r b → Member (slice_index sets r.a) b
 
--- two sets have a member in common
-pub record Meet (one two : ℕ) : Type 0 where
-  pub who : ℕ
-  pub small : who < 64
-  pub first : Member one who
-  pub second : Member two who
-
--- the class of some row and one of its rivals are both in the set
-pub record TornSets (rows : List Row) (rivals : List ℕ) (classes : ℕ) : Type 0 where
-  pub at : ℕ
-  pub within : at < length rows
-  pub meets : Meet (slice_index rivals at) classes
-  pub class : Member classes ((get_or rows at (record { letter = 0; a = 0; b = 0; n = 0 })).a % 64)
+-- a class and one of its rivals are both in the set
+pub record TornSets (sets : List ℕ) (classes : ℕ) : Type 0 where
+  pub class : ℕ
+  pub small : class < 64
+  pub has : Member classes class
+  pub meets : Meet (slice_index sets class) classes
 
 -- an end that a key links to: a class by a need, an end by an arrow that its arrow lies in
 pub data ForwardEnd (w : KeyLinks) (i e : ℕ) : Type 0 where
@@ -87,11 +81,14 @@ pub data Forward (w : KeyLinks) (i j : ℕ) : Type 0 where
   end_class : 64 ≤ i → i < 128 → j < 64 → Member (slice_index w.links.domains (i - 64)) j → Forward w i j
   to_an_end : i < 128 → 64 ≤ j → j < 128 → ForwardEnd w i (j - 64) → Forward w i j
 
+abbrev pub blank : Reach
+blank = record { classes = 0; ends = 0; torn = false }
+
 -- a link backward: to key j from the point 128, from what j leads to, or from the other end of its arrow
 pub data Backward (w : Keys) (i j : ℕ) : Type 0 where
-  is_torn : i ≡ 128 → j < 128 → slice_index w.torn j ≡ 1 → Backward w i j
-  to_class : i < 64 → j < 128 → Member (slice_index w.classes j) i → Backward w i j
-  to_end : 64 ≤ i → i < 128 → j < 128 → Member (slice_index w.ends j) (i - 64) → Backward w i j
+  is_torn : i ≡ 128 → j < 128 → (slice_index_or w.reaches j blank).torn ≡ true → Backward w i j
+  to_class : i < 64 → j < 128 → Member (slice_index_or w.reaches j blank).classes i → Backward w i j
+  to_end : 64 ≤ i → i < 128 → j < 128 → Member (slice_index_or w.reaches j blank).ends (i - 64) → Backward w i j
   other_end : 64 ≤ i → i < 128 → j < 128 → i / 2 ≡ j / 2 → Backward w i j
 
 -- the description of a key
@@ -106,12 +103,18 @@ EmptyKeys rows bytes = (k : ℕ) → k < 128 → Bit (slice_index bytes k) (Empt
 abbrev pub Torn : List Row → ℕ → Type 0
 Torn rows k = Clashing (Link rows) (Apart rows) (keyed k) (keyed k) ⊎ ((64 ≤ k) × ArrowTorn rows ((k - 64) / 2))
 
+-- the web of keys, and what clashes in it
+pub record KeyBuilt (rows : List Row) (w : KeyLinks) : Type 0 where
+  pub links : Built rows w.links
+  pub rivals : RivalSets w.links rows w.rivals
+  pub broken : Gathers (ArrowTorn rows) 32 w.broken
+
 -- what is known of a key
-pub record Known (rows : List Row) (k classes ends torn : ℕ) : Type 0 where
-  pub to_classes : Gathers (λ a. Leads (Link rows) (keyed k) (cls a)) 64 classes
-  pub to_ends : Gathers (λ e. Leads (Link rows) (keyed k) (mark e 1)) 64 ends
-  pub tears : Bit torn (Torn rows k)
+pub record Known (rows : List Row) (k : ℕ) (r : Reach) : Type 0 where
+  pub to_classes : Gathers (λ a. Leads (Link rows) (keyed k) (cls a)) 64 r.classes
+  pub to_ends : Gathers (λ e. Leads (Link rows) (keyed k) (mark e 1)) 64 r.ends
+  pub tears : Tells r.torn (Torn rows k)
 
 -- the first n keys are known
 abbrev pub Surveyed : List Row → ℕ → Keys → Type 0
-Surveyed rows n w = (k : ℕ) → k < n → Known rows k (slice_index w.classes k) (slice_index w.ends k) (slice_index w.torn k)
+Surveyed rows n w = (k : ℕ) → k < n → Known rows k (slice_index_or w.reaches k blank)

@@ -1,5 +1,5 @@
 -- Sets of numbers below 64 as the bits of a word. For inner contracts: no call's promise rests on it.
-use Rattle.std.specs.Prelude.{◌≡◌, ℕ, zero, suc, ◌/◌, ◌%◌, ◌<◌, ◌≤◌, ◌⊎◌}
+use Rattle.std.specs.Prelude.{◌≡◌, ℕ, zero, suc, ◌+◌, ◌*◌, ◌/◌, ◌%◌, ◌<◌, min, ◌⊎◌, Some, None, Option}
 
 -- the binary digit at place k
 abbrev pub bit : ℕ → ℕ → ℕ
@@ -15,12 +15,30 @@ pub record Joins (m k r : ℕ) : Type 0 where
   pub kept : (j : ℕ) → Member m j → Member r j
   pub only : (j : ℕ) → Member r j → Member m j ⊎ (j ≡ k)
 
--- the lowest number from `at` on and below n of which a fact holds, or n
-pub record Least (n : ℕ) (To : ℕ → Type 0) (at r : ℕ) : Type 0 where
-  pub within : r ≤ n
-  pub from : r < n → at ≤ r
-  pub found : r < n → To r
-  pub none : (k : ℕ) → at ≤ k → k < r → To k → ⊥
+-- two sets have a member in common
+pub record Meet (one two : ℕ) : Type 0 where
+  pub who : ℕ
+  pub small : who < 64
+  pub first : Member one who
+  pub second : Member two who
+
+-- the members of both sets
+pub record Unites (one two r : ℕ) : Type 0 where
+  pub left : (k : ℕ) → Member one k → Member r k
+  pub right : (k : ℕ) → Member two k → Member r k
+  pub only : (k : ℕ) → Member r k → Member one k ⊎ Member two k
+
+-- j is the stride times a member, and the offset
+pub record Strided (set stride offset j : ℕ) : Type 0 where
+  pub block : ℕ
+  pub member : Member set block
+  pub is : j ≡ stride * block + offset
+
+-- the lower of two numbers that may be missing
+abbrev pub Lower : Option ℕ → Option ℕ → Option ℕ → Type 0
+Lower None two r = r ≡ two
+Lower (Some x) None r = r ≡ Some x
+Lower (Some x) (Some y) r = r ≡ Some (min x y)
 
 -- the members are the numbers below n of which a fact holds
 pub record Gathers (Fact : ℕ → Type 0) (n m : ℕ) : Type 0 where

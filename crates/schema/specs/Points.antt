@@ -2,7 +2,7 @@
 use Rattle.std.specs.Prelude.{◌≡◌, ℕ, ◌+◌, ◌*◌, ◌/◌, ◌%◌, ◌<◌, ◌≤◌, List, slice_index}
 use Rattle.schema.specs.declared.descriptions.Descriptions.{Descriptions}
 use Rattle.schema.specs.declared.row.Row.{Row}
-use Rattle.schema.specs.Masks.{Member}
+use Rattle.schema.specs.Masks.{Member, Strided}
 use Rattle.schema.specs.Rows.{◌∈◌}
 use Rattle.schema.specs.Webs.{Description, cls, mark}
 
@@ -16,13 +16,6 @@ abbrev pub Placed : Description → Type 0
 Placed (cls a) = a < 64
 Placed (mark e m) = (e < 64) × (1 ≤ m) × (m ≤ 31)
 
--- j is the point of a class of the set
-pub record ToClasses (set j : ℕ) : Type 0 where
-  pub class : ℕ
-  pub small : class < 64
-  pub member : Member set class
-  pub is : j ≡ 32 * class
-
 -- j is the mark that class a needs at an end of the set
 pub record ToNeeds (set : ℕ) (counts : List ℕ) (a j : ℕ) : Type 0 where
   pub end : ℕ
@@ -30,20 +23,13 @@ pub record ToNeeds (set : ℕ) (counts : List ℕ) (a j : ℕ) : Type 0 where
   pub member : Member set end
   pub is : j ≡ 32 * end + slice_index counts (64 * a + end) % 32
 
--- j stands at the offset among the 64 points of an arrow of the set
-pub record ToArrows (set offset j : ℕ) : Type 0 where
-  pub arrow : ℕ
-  pub small : arrow < 32
-  pub member : Member set arrow
-  pub is : j ≡ 64 * arrow + offset
-
 -- a link from class x, where m is 0, or else from mark (x, m)
 pub data Ways (w : Descriptions) (x m j : ℕ) : Type 0 where
-  up : m ≡ 0 → ToClasses (slice_index w.supers x) j → Ways w x m j
+  up : m ≡ 0 → Strided (slice_index w.supers x) 32 0 j → Ways w x m j
   need : m ≡ 0 → ToNeeds (slice_index w.needs x) w.counts x j → Ways w x m j
-  domain : m ≡ 1 → ToClasses (slice_index w.domains x) j → Ways w x m j
+  domain : m ≡ 1 → Strided (slice_index w.domains x) 32 0 j → Ways w x m j
   below : 2 ≤ m → j + 1 ≡ 32 * x + m → Ways w x m j
-  along : 1 ≤ m → ToArrows (slice_index w.overs (x / 2)) (32 * (x % 2) + m) j → Ways w x m j
+  along : 1 ≤ m → Strided (slice_index w.overs (x / 2)) 64 (32 * (x % 2) + m) j → Ways w x m j
 
 abbrev pub Onward : Descriptions → ℕ → ℕ → Type 0
 Onward w i j = (i < 2048) × Ways w (i / 32) (i % 32) j

@@ -9,7 +9,7 @@ ghost use Rattle.std.proofs.Common.{rules};
 
 use crate::clashes::torn;
 use crate::row::Row;
-use crate::set64::{next_member, with_member};
+use crate::set64::Set64;
 use search::breadth_first::search;
 use search::web::Web;
 
@@ -19,7 +19,7 @@ pub(crate) const ARROWS: usize = 32;
 /// The arrows that each arrow lies in.
 #[derive(Drop)]
 pub(crate) struct Arrows {
-    pub(crate) overs: [u64; 32],
+    pub(crate) overs: [Set64; 32],
 }
 
 impl Web for Arrows {
@@ -37,23 +37,22 @@ impl Web for Arrows {
         if from >= ARROWS {
             return None;
         }
-        let found = next_member(self.overs[from], at);
-        if found < ARROWS { Some(found) } else { None }
+        self.overs[from].next_from(at).filter(|to| *to < ARROWS)
     }
 }
 
 /// The set of the arrows that lead to two that clash.
-pub(crate) fn torn_arrows(rows: &[Row], arrows: &Arrows) -> u64
+pub(crate) fn torn_arrows(rows: &[Row], arrows: &Arrows) -> Set64
     requires sound { AllSound 64 32 rows.now }
     requires told { Told 80 arrows.now.overs rows.now }
     ensures { Gathers (ArrowTorn rows.now) 32 result }
 {
-    let mut found = 0;
+    let mut found = Set64::EMPTY;
     for arrow in 0..ARROWS {
         let mut marks = [0u8; ARROWS];
         mark_all(arrows, arrow, &mut marks);
         if torn::<Arrows>(rows, &marks, &marks) {
-            found = with_member(found, arrow);
+            found.insert(arrow);
         }
     }
     found
@@ -64,8 +63,7 @@ pub(crate) fn mark_all<W: Web>(web: &W, start: usize, marks: &mut [u8])
     requires { W.Web.size web.now ≤ length marks.old }
     ensures { Marked (W.Web.size web.now) (W.Web.link web.now) start marks.new }
 {
-    match search(web, start, marks) {
-        Ok(()) => {}
-        Err(_) => unreachable(),
-    }
+    let Ok(()) = search(web, start, marks) else {
+        unreachable();
+    };
 }

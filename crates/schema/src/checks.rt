@@ -7,7 +7,7 @@ ghost use Rattle.schema.specs.Checks.{Shared};
 use crate::faults::{CheckFault, SheetFault};
 use crate::letters::unsound_field;
 use crate::row::Row;
-use crate::set64::{has_member, with_member};
+use crate::set64::Set64;
 use crate::sound_sheet::SoundSheet;
 
 /// Checks that each of some rows, which are within the limits, is sound.
@@ -33,7 +33,7 @@ pub(crate) fn check_caps(sheet: &SoundSheet) -> Result<(), CheckFault>
     let rows = sheet.rows.as_slice();
     let shared = shared_arrows(rows);
     for (k, row) in rows.iter().enumerate() {
-        if row.letter == b'K' && has_member(shared, usize::from(row.b) / 2) {
+        if row.letter == b'K' && shared.has(usize::from(row.b) / 2) {
             return Err(CheckFault::Capped { row: k as u16 });
         }
     }
@@ -42,14 +42,14 @@ pub(crate) fn check_caps(sheet: &SoundSheet) -> Result<(), CheckFault>
 
 /// The set of the arrows that another arrow leads to. The last link of a way from elsewhere is a row of its own, so
 /// the rows that lead straight to an arrow tell.
-pub(crate) fn shared_arrows(rows: &[Row]) -> u64
+pub(crate) fn shared_arrows(rows: &[Row]) -> Set64
     requires { AllSound 64 32 rows.now }
     ensures { Shared rows.now result }
 {
-    let mut shared = 0;
+    let mut shared = Set64::EMPTY;
     for row in rows {
         if row.letter == b'P' && row.a != row.b {
-            shared = with_member(shared, usize::from(row.b));
+            shared.insert(usize::from(row.b));
         }
     }
     shared

@@ -10,7 +10,6 @@ use crate::findings::Findings;
 use crate::letters::unsound_field;
 use crate::row::Row;
 use crate::schema::Schema;
-use crate::set64::has_member;
 use crate::sheet::Sheet;
 
 /// Answers whether every world that fulfils the rows of a sheet fulfils the asked row too.
@@ -40,7 +39,7 @@ fn uncountable(schema: &Schema, asked: Row) -> bool
     ensures { Tells result (Uncountable schema.now.rows.items asked) }
 {
     if asked.letter == b'F' && asked.n >= 2 {
-        has_member(shared_arrows(&schema.rows), usize::from(asked.b) / 2)
+        shared_arrows(&schema.rows).has(usize::from(asked.b) / 2)
     } else {
         false
     }

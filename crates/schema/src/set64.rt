@@ -1,32 +1,86 @@
 //! Sets of numbers below 64, as the bits of a word.
-ghost use Rattle.std.specs.Prelude.{◌≡◌, ℕ, ◌<◌, ◌⊎◌};
-ghost use Rattle.schema.specs.Masks.{Member, Least, Joins};
+ghost use Rattle.std.specs.Prelude.{◌≡◌, ℕ, ◌*◌, ◌<◌, ◌≤◌};
+ghost use Rattle.search.specs.Leads.{NextLink};
+ghost use Rattle.schema.specs.Masks.{Member, Joins, Meet, Strided, Unites};
 ghost use Rattle.schema.specs.Verdicts.{Tells};
 
-/// The word with one more member.
-pub(crate) fn with_member(set: u64, k: usize) -> u64
-    requires { k < 64 }
-    ensures { Joins set k result }
-{
-    set | (1 << k)
+use std::marker::Model;
+
+/// A set of numbers below 64.
+#[derive(Clone, Copy)]
+pub(crate) struct Set64 {
+    bits: u64,
 }
 
-/// The lowest member from `from` on, or 64 where there is none.
-pub(crate) fn next_member(set: u64, from: usize) -> usize
-    ensures { Least 64 (Member set) from result }
-{
-    if from >= 64 {
-        return 64;
+impl Model for Set64 {
+    ghost Value = { ℕ };
+
+    ghost view = { λ s. s.bits };
+
+    ghost inverse = { λ m. record { bits = m } };
+}
+
+impl Set64 {
+    /// The set with no member.
+    pub(crate) const EMPTY: Set64 = Set64 { bits: 0 };
+
+    /// Adds a member.
+    pub(crate) fn insert(&mut self, k: usize)
+        requires { k < 64 }
+        ensures { Joins self.old k self.new }
+    {
+        self.bits |= 1 << k;
     }
-    let rest = set >> from;
-    let found = from + rest.trailing_zeros() as usize;
-    if found < 64 { found } else { 64 }
-}
 
-/// Whether k is a member.
-pub(crate) fn has_member(set: u64, k: usize) -> bool
-    requires { k < 64 }
-    ensures { Tells result (Member set k) }
-{
-    (set >> k) % 2 == 1
+    /// Adds the members of another set.
+    pub(crate) fn join(&mut self, other: Set64)
+        ensures { Unites self.old other self.new }
+    {
+        self.bits |= other.bits;
+    }
+
+    /// Whether k is a member.
+    pub(crate) fn has(self, k: usize) -> bool
+        requires { k < 64 }
+        ensures { Tells result (Member self k) }
+    {
+        (self.bits >> k) % 2 == 1
+    }
+
+    /// The lowest member from `from` on.
+    pub(crate) fn next_from(self, from: usize) -> Option<usize>
+        ensures { NextLink 64 (Member self) from result }
+    {
+        if from >= 64 {
+            return None;
+        }
+        let rest = self.bits >> from;
+        let found = from + rest.trailing_zeros() as usize;
+        if found < 64 { Some(found) } else { None }
+    }
+
+    /// Whether the sets have a member in common.
+    pub(crate) fn meets(self, other: Set64) -> bool
+        ensures { Tells result (Meet self other) }
+    {
+        self.bits & other.bits != 0
+    }
+
+    /// The lowest number from `at` on and below `end` that is STRIDE times a member and `offset` more.
+    pub(crate) fn next_strided<const STRIDE: usize>(
+        self,
+        offset: usize,
+        at: usize,
+        end: usize,
+    ) -> Option<usize>
+        requires within { offset < STRIDE }
+        requires few { STRIDE ≤ 64 }
+        requires low { at < end }
+        requires known { end ≤ STRIDE * 64 }
+        ensures { NextLink end (Strided self STRIDE offset) at result }
+    {
+        let first = (at + (STRIDE - 1 - offset)) / STRIDE;
+        let found = STRIDE * self.next_from(first)? + offset;
+        if found < end { Some(found) } else { None }
+    }
 }

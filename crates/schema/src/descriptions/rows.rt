@@ -6,7 +6,7 @@ ghost use Rattle.schema.specs.Points.{Built};
 
 use super::Descriptions;
 use crate::row::Row;
-use crate::set64::with_member;
+use crate::set64::Set64;
 
 impl Descriptions {
     /// The web of rows that are sound for some counts up to the limits.
@@ -15,11 +15,11 @@ impl Descriptions {
         ensures { Built rows.now result }
     {
         let mut web = Descriptions {
-            supers: [0; 64],
-            needs: [0; 64],
+            supers: [Set64::EMPTY; 64],
+            needs: [Set64::EMPTY; 64],
             counts: [0; 4096],
-            domains: [0; 64],
-            overs: [0; 32],
+            domains: [Set64::EMPTY; 64],
+            overs: [Set64::EMPTY; 32],
         };
         for row in rows {
             web.learn(*row);
@@ -32,12 +32,12 @@ impl Descriptions {
         requires { Sound 64 32 row }
         ensures { (rows : List RowMeaning) → Built rows self.old → Built (rows ++ row ∷ []) self.new }
     {
-        let a = row.a as usize;
-        let b = row.b as usize;
+        let a = usize::from(row.a);
+        let b = usize::from(row.b);
         match row.letter {
-            b'S' => self.supers[a] = with_member(self.supers[a], b),
-            b'D' => self.domains[a] = with_member(self.domains[a], b),
-            b'P' => self.overs[a] = with_member(self.overs[a], b),
+            b'S' => self.supers[a].insert(b),
+            b'D' => self.domains[a].insert(b),
+            b'P' => self.overs[a].insert(b),
             b'F' => self.learn_need(row),
             _ => {}
         }
@@ -48,12 +48,12 @@ impl Descriptions {
         requires need { row.letter ≡ 70 }
         ensures { (rows : List RowMeaning) → Built rows self.old → Built (rows ++ row ∷ []) self.new }
     {
-        let class = row.a as usize;
-        let end = row.b as usize;
+        let class = usize::from(row.a);
+        let end = usize::from(row.b);
         let place = 64 * class + end;
-        self.needs[class] = with_member(self.needs[class], end);
-        if (self.counts[place] as u16) < row.n {
-            self.counts[place] = row.n as u8;
+        self.needs[class].insert(end);
+        if self.counts[place] < row.n {
+            self.counts[place] = row.n;
         }
     }
 }

@@ -21,7 +21,7 @@ loop-arrow-preserved c =
       | then-torn v ↦
           subst (Gathers (ArrowTorn rows) (p + 1)) (sym v.found-is)
           (gathers_more c.loop-arrow.invariant (arrow_torn rows c.requires.sound p p marks marks told told v.if-torn.ensures)
-          v.with_member-found.ensures)
+          v.insert.ensures)
       | else-torn v ↦
           subst (Gathers (ArrowTorn rows) (p + 1)) (sym v.found-is)
           (gathers_past c.loop-arrow.invariant

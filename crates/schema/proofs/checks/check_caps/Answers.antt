@@ -11,17 +11,17 @@ use Rattle.schema.proofs.Caps.{caps, no_caps, no_cap_letter}
 use Rattle.schema.proofs.Schemas.{sheet_sound}
 use Rattle.schema.proofs.Members.{∈_at, each_below, every_∈}
 use Rattle.schema.proofs.checks.check_caps.Goals as goal
-use Rattle.schema.proofs.checks.check_caps.Goals.{else-row-eq75-via-then-row-eq75+else-has_member, else-row-eq75-via-else-row-eq75}
+use Rattle.schema.proofs.checks.check_caps.Goals.{else-row-eq75-via-then-row-eq75+else-has, else-row-eq75-via-else-row-eq75}
 
-pub has_member-requires : goal.has_member-requires
-has_member-requires c =
+pub has-requires : goal.has-requires
+has-requires c =
     let rows = c.as_slice-rows.result.now in
     let sound : AllSound 64 32 rows = subst (AllSound 64 32) (sym c.as_slice-rows.ensures.value) (sheet_sound c.args.sheet.now) in
     let f = fits_at (get_or rows c.loop-k.k blank_row) 75 c.if-row-eq75.true (sound _ (∈_at rows c.loop-k.k blank_row c.loop-k-test.true)) in
     omega (arith, f.1, c.from.ensures)
 
-pub returns-then-has_member : goal.returns-then-has_member
-returns-then-has_member c =
+pub returns-then-has : goal.returns-then-has
+returns-then-has c =
     let sheet = c.args.sheet.now in
     let rows = c.as_slice-rows.result.now in
     let r = get_or rows c.loop-k.k blank_row in
@@ -30,7 +30,7 @@ returns-then-has_member c =
     let sound : AllSound sheet.classes sheet.arrows rows = rw c.as_slice-rows.ensures.value sheet.sound in
     rw (← c.as_slice-rows.ensures.value)
     (capped c.loop-k.k r small sound (slice_get-get_or rows c.loop-k.k blank_row c.loop-k-test.true)
-    (caps rows c.shared_arrows-shared.result c.shared_arrows-shared.ensures r c.if-row-eq75.true (subst (Member c.shared_arrows-shared.result) here c.if-has_member.ensures))
+    (caps rows c.shared_arrows-shared.result c.shared_arrows-shared.ensures r c.if-row-eq75.true (subst (Member c.shared_arrows-shared.result) here c.if-has.ensures))
     (each_below (λ (q : Row). CapsShared rows q → ⊥) rows c.loop-k.k blank_row (omega arith) c.loop-k.invariant))
 
 pub loop-k-preserved : goal.loop-k-preserved
@@ -40,9 +40,9 @@ loop-k-preserved c =
     let r = get_or rows c.loop-k.k blank_row in
     below_more _ _ c.loop-k.invariant
     (elim c.else-row-eq75.branch [
-      | else-row-eq75-via-then-row-eq75+else-has_member v ↦
+      | else-row-eq75-via-then-row-eq75+else-has v ↦
           let here : v.from.result / 2 ≡ arrow r.b = omega (arith, v.from.ensures) in
-          no_caps rows s.result s.ensures r (subst (λ (k : ℕ). Member s.result k → ⊥) here v.if-has_member.ensures)
+          no_caps rows s.result s.ensures r (subst (λ (k : ℕ). Member s.result k → ⊥) here v.if-has.ensures)
       | else-row-eq75-via-else-row-eq75 v ↦ no_cap_letter rows s.result s.ensures r v.if-row-eq75.false
     ])
 

@@ -13,8 +13,8 @@ use Rattle.schema.proofs.checks.shared_arrows.Goals.{then-row-eq80+then-row, els
 pub loop-row-init : goal.loop-row-init
 loop-row-init c = shared_none
 
-pub with_member-shared-requires : goal.with_member-shared-requires
-with_member-shared-requires c =
+pub insert-requires : goal.insert-requires
+insert-requires c =
     let f = fits_at _ 80 c.if-row-eq80.true (c.requires _ (∈_at c.args.rows.now c.loop-row.row-index blank_row c.loop-row-test.true)) in
     omega (arith, f.1)
 
@@ -29,8 +29,8 @@ loop-row-preserved c =
       | then-row-eq80+then-row v ↦
           let f = fits_at r 80 v.if-row-eq80.true (c.requires r (∈_at rows i blank_row c.loop-row-test.true)) in
           subst (Shared (take i rows ++ r ∷ [])) (sym v.shared-is)
-          (shared_more (take i rows) c.loop-row.shared v.with_member-shared.result r v.if-row-eq80.true (omega (arith, f.3)) v.if-row.true
-          (subst (λ (k : ℕ). Joins c.loop-row.shared k v.with_member-shared.result) (omega arith) v.with_member-shared.ensures) c.loop-row.invariant)
+          (shared_more (take i rows) c.loop-row.shared v.insert.new.self r v.if-row-eq80.true (omega (arith, f.3)) v.if-row.true
+          (subst (λ (k : ℕ). Joins c.loop-row.shared k v.insert.new.self) (omega arith) v.insert.ensures) c.loop-row.invariant)
       | else-row-eq80 v ↦
           subst (Shared (take i rows ++ r ∷ [])) (sym v.shared-is)
           (shared_other (take i rows) c.loop-row.shared r

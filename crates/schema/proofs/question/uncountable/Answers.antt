@@ -17,7 +17,7 @@ returns-then-asked-ge2 c =
     let set = c.shared_arrows.result in
     let shared : Shared rows set = subst (λ (rs : List Row). Shared rs set) c.deref.ensures.0 c.shared_arrows.ensures in
     let here : c.from.result / 2 ≡ arrow r.b = omega (arith, c.from.ensures) in
-    tells_same c.has_member.result
+    tells_same c.has.result
     (λ (s : Alone rows (arrow r.b) → ⊥). (r.a, r.b, r.n, sym (row_is r 70 r.a r.b r.n c.if-asked-eq70.true refl refl refl), c.if-asked-ge2.true, s))
     (λ u. subst (λ (e : ℕ). Alone rows (arrow e) → ⊥) (sym (ap (λ (x : Row). x.b) u.3)) u.5)
-    (member_tells rows set shared c.has_member.result (arrow r.b) (subst (λ (k : ℕ). Tells c.has_member.result (Member set k)) here c.has_member.ensures))
+    (member_tells rows set shared c.has.result (arrow r.b) (subst (λ (k : ℕ). Tells c.has.result (Member set k)) here c.has.ensures))

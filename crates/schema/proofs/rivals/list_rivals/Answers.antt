@@ -1,26 +1,89 @@
-use Rattle.std.proofs.Common.{◌<◌, ◌≢◌, length, get_or, sym, subst, arith, length-set, get_or-set_other, get_or-set_same, below_more}
+use Rattle.std.proofs.Common.{◌≡◌, ℕ, ◌+◌, ◌*◌, ◌<◌, List, [], ◌∷◌, ◌++◌, length, get_or, take, sym, ap, ◌∙◌, subst, inl, inr, ⊎_elim, arith}
+use Rattle.std.proofs.lemmas.List.{get_or_default, take_more, take_all}
+use Rattle.schema.specs.declared.descriptions.Descriptions.{Descriptions}
 use Rattle.schema.specs.declared.row.Row.{Row}
-use Rattle.schema.specs.Masks.{Gathers}
-use Rattle.schema.specs.Keys.{Rival}
+use Rattle.schema.specs.Masks.{Member, Unites, Gathers}
+use Rattle.schema.specs.Keys.{Rival, apart, needs_more, RivalSets}
+use Rattle.schema.proofs.Building.{fits_at, joins_at}
 use Rattle.schema.proofs.Members.{∈_at}
+use Rattle.schema.proofs.Rivalry.{rivals_none, rivals_other, rivals_more}
 use Rattle.schema.proofs.rivals.list_rivals.Goals as goal
+use Rattle.schema.proofs.rivals.list_rivals.Goals.{in-88, in-75, in_default}
 
-pub rivals_of-requires : goal.rivals_of-requires
-rivals_of-requires c = c.requires.sound _ (∈_at c.args.rows.now c.loop-k.k _ c.loop-k-test.true)
+-- what an X or a K row has for rivals, and no other row has any
+letters : (w : Descriptions) (r : Row) (b : ℕ) → (r.letter ≡ 88 → ⊥) → (r.letter ≡ 75 → ⊥) → Rival w r b → ⊥
+letters w r b x k (apart e q) = x e
+letters w r b x k (needs_more e q) = k e
 
-pub loop-k-preserved : goal.loop-k-preserved
-loop-k-preserved c =
+only_x : (w : Descriptions) (r : Row) (b : ℕ) → r.letter ≡ 88 → Rival w r b → b ≡ r.b
+only_x w r b x (apart e q) = q
+only_x w r b x (needs_more e q) = absurd (omega arith)
+
+only_k : (w : Descriptions) (r : Row) (b : ℕ) → r.letter ≡ 75 → Rival w r b → r.n < get_or w.counts (64 * b + r.b) 0
+only_k w r b x (apart e q) = absurd (omega arith)
+only_k w r b x (needs_more e q) = q
+
+-- said of equal places
+unites_at : (sets : List ℕ) (a x d n v : ℕ) → a ≡ x → x < length sets → Unites (get_or sets a d) n v → Unites (get_or sets x 0) n v
+unites_at sets a x d n v p w u = subst (λ (m : ℕ). Unites m n v) (ap (λ (i : ℕ). get_or sets i d) p ∙ get_or_default sets x d 0 w) u
+
+needing_at : (w : Descriptions) (e x cap set : ℕ) → e ≡ x → Gathers (λ a. cap < get_or w.counts (64 * a + e) 0) 64 set → Gathers (λ a. cap < get_or w.counts (64 * a + x) 0) 64 set
+needing_at w e x cap set p g = subst (λ (i : ℕ). Gathers (λ a. cap < get_or w.counts (64 * a + i) 0) 64 set) p g
+
+-- each row that has rivals is between classes, or between a class and an end
+pub bounds-rivals-a : goal.bounds-rivals-a
+bounds-rivals-a c = let f = fits_at _ 88 c.in-88.is (c.requires _ (∈_at c.args.rows.now c.loop-row.row-index _ c.loop-row-test.true)) in omega (arith, f.0, c.from-a.ensures)
+
+pub insert-requires : goal.insert-requires
+insert-requires c = let f = fits_at _ 88 c.in-88.is (c.requires _ (∈_at c.args.rows.now c.loop-row.row-index _ c.loop-row-test.true)) in omega (arith, f.1, c.from-b.ensures)
+
+pub bounds-rivals-a-in-75 : goal.bounds-rivals-a-in-75
+bounds-rivals-a-in-75 c = let f = fits_at _ 75 c.in-75.is (c.requires _ (∈_at c.args.rows.now c.loop-row.row-index _ c.loop-row-test.true)) in omega (arith, f.0, c.from-a.ensures)
+
+pub needing_more-requires : goal.needing_more-requires
+needing_more-requires c = let f = fits_at _ 75 c.in-75.is (c.requires _ (∈_at c.args.rows.now c.loop-row.row-index _ c.loop-row-test.true)) in omega (arith, f.1, c.from-b.ensures)
+
+pub listed : goal.listed
+listed c = omega (arith, bounds-rivals-a c)
+
+pub listed-in-75 : goal.listed-in-75
+listed-in-75 c = omega (arith, bounds-rivals-a-in-75 c)
+
+pub loop-row-init : goal.loop-row-init
+loop-row-init c = rivals_none c.args.links.now
+
+pub loop-row-preserved : goal.loop-row-preserved
+loop-row-preserved c =
+    let w = c.args.links.now in
+    let rows = c.args.rows.now in
+    let i = c.loop-row.row-index in
     let none : Row = record { letter = 0; a = 0; b = 0; n = 0 } in
-    let k = c.loop-k.k in
-    let sets = c.loop-k.rivals in
-    let v = c.rivals_of.result in
-    let l : k < length sets = omega (arith, c.loop-k.invariant.1) in (
-      below_more _ _
-          (λ j h. let ne : j ≢ k = omega arith in
-          subst (Gathers (Rival c.args.links.now (get_or c.args.rows.now j none)) 64) (sym (get_or-set_other sets k j v 0 ne)) (c.loop-k.invariant.0 j h))
-          (subst (Gathers (Rival c.args.links.now (get_or c.args.rows.now k none)) 64) (sym (get_or-set_same sets k v 0 l)) c.rivals_of.ensures),
-      omega (arith, c.loop-k.invariant.1, length-set sets k v),
-    )
+    let r = get_or rows i none in
+    let sound = c.requires r (∈_at rows i none c.loop-row-test.true) in
+    let sets = c.loop-row.rivals in
+    subst (λ (rs : List Row). RivalSets w rs c.match-row.rivals) (sym (take_more rows i none c.loop-row-test.true))
+    (elim c.match-row.branch [
+      | in-88 v ↦
+          let f = fits_at r 88 v.in-88.is sound in
+          let j = joins_at sets c.from-a.result r.a c.from-b.result r.b v.index-rivals-a.result v.insert.new.self c.from-a.ensures c.from-b.ensures (omega (arith, f.0)) v.insert.ensures in
+          subst (RivalSets w (take i rows ++ r ∷ [])) (sym v.rivals-is)
+          (rivals_more w (take i rows) r sets c.loop-row.invariant c.from-a.result v.insert.new.self c.from-a.ensures (omega (arith, f.0)) j.kept
+          (λ b l x. subst (Member v.insert.new.self) (sym (only_x w r b v.in-88.is x)) j.new)
+          (λ b m. ⊎_elim inl (λ (e : b ≡ r.b). inr (omega (arith, f.1), apart v.in-88.is e)) (j.only b m)))
+      | in-75 v ↦
+          let f = fits_at r 75 v.in-75.is sound in
+          let u = unites_at sets c.from-a.result r.a v.index-rivals-a-in-75.result v.needing_more.result v.join.new.self c.from-a.ensures (omega (arith, f.0)) v.join.ensures in
+          let g = needing_at w c.from-b.result r.b r.n v.needing_more.result c.from-b.ensures v.needing_more.ensures in
+          subst (RivalSets w (take i rows ++ r ∷ [])) (sym v.rivals-is)
+          (rivals_more w (take i rows) r sets c.loop-row.invariant c.from-a.result v.join.new.self c.from-a.ensures (omega (arith, f.0)) u.left
+          (λ b l x. u.right b (g.all b l (only_k w r b v.in-75.is x)))
+          (λ b m. ⊎_elim inl (λ (n : Member v.needing_more.result b). inr (g.small b n, needs_more v.in-75.is (g.only b n))) (u.only b m)))
+      | in_default v ↦
+          subst (RivalSets w (take i rows ++ r ∷ [])) (sym v.rivals-is)
+          (rivals_other w (take i rows) r sets c.loop-row.invariant (λ b l x. letters w r b (λ e. omega arith) (λ e. omega arith) x))
+    ])
 
 pub returns : goal.returns
-returns c = (c.args.links.now, c.requires.built, λ k h. c.loop-k.invariant.0 k (omega arith))
+returns c =
+    let rows = c.args.rows.now in
+    subst (λ (rs : List Row). RivalSets c.args.links.now rs c.loop-row.rivals) (take_all c.loop-row.row-index rows c.loop-row-test.false) c.loop-row.invariant

@@ -12,7 +12,7 @@ loop-class-preserved c =
     let More = λ (a : ℕ). c.args.cap < get_or c.args.links.now.counts (64 * a + c.args.end) 0 in
     elim c.if-links-class.branch [
       | then-links-class v ↦
-          subst (Gathers More (c.loop-class.class + 1)) (sym v.found-is) (gathers_more c.loop-class.invariant v.if-links-class.true v.with_member-found.ensures)
+          subst (Gathers More (c.loop-class.class + 1)) (sym v.found-is) (gathers_more c.loop-class.invariant v.if-links-class.true v.insert.ensures)
       | else-links-class v ↦ subst (Gathers More (c.loop-class.class + 1)) (sym v.found-is) (gathers_past c.loop-class.invariant (λ h. omega (arith, v.if-links-class.false)))
     ]
 

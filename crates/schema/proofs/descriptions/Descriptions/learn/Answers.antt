@@ -8,7 +8,7 @@ returns-in-83 c rows t =
     let w = c.args.self.now in
     let f = fits_at r 83 c.in-83.is c.requires in
     record {
-      supers = told_more 83 w.supers rows r c.with_member.result c.in-83.is (omega (arith, f.3)) (omega (arith, f.0)) c.with_member.ensures t.supers;
+      supers = told_more 83 w.supers rows r c.from-a.result c.from-b.result c.index-self-a.result c.insert.new.self c.in-83.is (omega (arith, f.3)) c.from-a.ensures c.from-b.ensures (omega (arith, f.0)) c.insert.ensures t.supers;
       domains = told_other 68 w.domains rows r (λ e. omega arith) t.domains;
       overs = told_other 80 w.overs rows r (λ e. omega arith) t.overs;
       needs = needed_other w.needs w.counts rows r (λ e. omega arith) t.needs;
@@ -21,7 +21,7 @@ returns-in-68 c rows t =
     let f = fits_at r 68 c.in-68.is c.requires in
     record {
       supers = told_other 83 w.supers rows r (λ e. omega arith) t.supers;
-      domains = told_more 68 w.domains rows r c.with_member-in-68.result c.in-68.is (omega (arith, f.3)) (omega (arith, f.0)) c.with_member-in-68.ensures t.domains;
+      domains = told_more 68 w.domains rows r c.from-a.result c.from-b.result c.index-self-a-in-68.result c.insert-in-68.new.self c.in-68.is (omega (arith, f.3)) c.from-a.ensures c.from-b.ensures (omega (arith, f.0)) c.insert-in-68.ensures t.domains;
       overs = told_other 80 w.overs rows r (λ e. omega arith) t.overs;
       needs = needed_other w.needs w.counts rows r (λ e. omega arith) t.needs;
     }
@@ -34,7 +34,7 @@ returns-in-80 c rows t =
     record {
       supers = told_other 83 w.supers rows r (λ e. omega arith) t.supers;
       domains = told_other 68 w.domains rows r (λ e. omega arith) t.domains;
-      overs = told_more 80 w.overs rows r c.with_member-in-80.result c.in-80.is (omega (arith, f.3)) (omega (arith, f.0)) c.with_member-in-80.ensures t.overs;
+      overs = told_more 80 w.overs rows r c.from-a.result c.from-b.result c.index-self-a-in-80.result c.insert-in-80.new.self c.in-80.is (omega (arith, f.3)) c.from-a.ensures c.from-b.ensures (omega (arith, f.0)) c.insert-in-80.ensures t.overs;
       needs = needed_other w.needs w.counts rows r (λ e. omega arith) t.needs;
     }
 

@@ -1,11 +1,19 @@
-use Rattle.std.proofs.Common.{arith}
+use Rattle.std.proofs.Common.{ℕ, ◌/◌, ◌%◌, ◌<◌, Option, sym, subst}
+use Rattle.search.specs.Leads.{NextLink}
+use Rattle.schema.specs.declared.descriptions.Descriptions.{Descriptions}
+use Rattle.schema.specs.Points.{Ways, Onward}
+use Rattle.schema.proofs.Leasts.{next_same}
 use Rattle.schema.proofs.descriptions.DescriptionsWeb.next_link.Goals as goal
 
-pub returns-then-found-lt-POINTS : goal.returns-then-found-lt-POINTS
-returns-then-found-lt-POINTS c =
-    let l = c.lowest-found.ensures in
-    let h = c.if-found-lt-POINTS.true in
-    (l.from h, h, (c.if-from-ge-POINTS.false, l.found h), λ i a b o. l.none i a b o.1)
+onward : (w : Descriptions) (i at : ℕ) (r : Option ℕ) → i < 2048 → NextLink 2048 (Ways w (i / 32) (i % 32)) at r → NextLink 2048 (Onward w i) at r
+onward w i at r h = next_same 2048 at (Ways w (i / 32) (i % 32)) (Onward w i) r (λ k l t. (h, t)) (λ k l t. t.1)
 
-pub returns-else-found-lt-POINTS : goal.returns-else-found-lt-POINTS
-returns-else-found-lt-POINTS c = λ j a b o. c.lowest-found.ensures.none j a (omega arith) o.1
+pub returns-then-times-eq0 : goal.returns-then-times-eq0
+returns-then-times-eq0 c =
+    let w = c.args.self.now in
+    let i = c.args.from in
+    onward w i c.args.at c.from_class.result c.if-from-ge-POINTS.false
+    (subst (λ (m : ℕ). NextLink 2048 (Ways w (i / 32) m) c.args.at c.from_class.result) (sym c.if-times-eq0.true) c.from_class.ensures)
+
+pub returns-else-times-eq0 : goal.returns-else-times-eq0
+returns-else-times-eq0 c = onward c.args.self.now c.args.from c.args.at c.from_mark.result c.if-from-ge-POINTS.false c.from_mark.ensures

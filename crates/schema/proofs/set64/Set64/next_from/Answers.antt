@@ -1,8 +1,9 @@
-use Rattle.std.proofs.Common.{◌≡◌, ℕ, ◌+◌, ◌-◌, ◌/◌, ◌^◌, ◌<◌, ◌≤◌, sym, ap, ◌∙◌, arith}
+use Rattle.std.proofs.Common.{◌≡◌, ℕ, ◌+◌, ◌-◌, ◌/◌, ◌^◌, ◌<◌, ◌≤◌, Some, None, sym, ap, ◌∙◌, subst, arith}
 use lib.Count.{count_trailing_zeros}
+use Rattle.search.specs.Leads.{NextLink}
 use Rattle.schema.specs.Masks.{bit, Member}
 use Rattle.schema.proofs.Bits.{bit_shift, bit_trailing, bit_below_trailing}
-use Rattle.schema.proofs.set64.next_member.Goals as goal
+use Rattle.schema.proofs.set64.Set64.next_from.Goals as goal
 
 -- below the first set bit of what is left there is no member
 before : (m from k : ℕ) → from ≤ k → k < from + count_trailing_zeros 64 (m / 2 ^ from) → Member m k → ⊥
@@ -18,18 +19,15 @@ here m from h =
     let i : from + t ≡ t + from = omega arith in
     ap (λ (x : ℕ). bit x m) i ∙ sym (bit_shift from t m) ∙ bit_trailing 64 (m / 2 ^ from) h
 
-pub returns-then-from-ge64 : goal.returns-then-from-ge64
-returns-then-from-ge64 c = record { within = omega arith; from = λ h. omega arith; found = λ h. absurd (omega arith); none = λ k l h e. omega arith }
+some : (m from : ℕ) → from + count_trailing_zeros 64 (m / 2 ^ from) < 64 → NextLink 64 (Member m) from (Some (from + count_trailing_zeros 64 (m / 2 ^ from)))
+some m from h = (omega arith, h, here m from (omega arith), λ k l i e. before m from k l i e)
 
 pub returns-then-found-lt64 : goal.returns-then-found-lt64
 returns-then-found-lt64 c =
-    record {
-      within = omega arith;
-      from = λ h. omega arith;
-      found = λ h. here c.args.set c.args.from (omega arith);
-      none = λ k l h e. before c.args.set c.args.from k l h e;
-    }
+    let m = c.self.inside.bits in
+    subst (λ (x : ℕ). NextLink 64 (Member x) c.args.from (Some (c.args.from + count_trailing_zeros 64 (m / 2 ^ c.args.from)))) c.self.view_is
+    (some m c.args.from c.if-found-lt64.true)
 
 pub returns-else-found-lt64 : goal.returns-else-found-lt64
 returns-else-found-lt64 c =
-    record { within = omega arith; from = λ h. absurd (omega arith); found = λ h. absurd (omega arith); none = λ k l h e. before c.args.set c.args.from k l (omega arith) e }
+    subst (λ (x : ℕ). NextLink 64 (Member x) c.args.from None) c.self.view_is (λ k l h e. before c.self.inside.bits c.args.from k l (omega arith) e)
