@@ -13,7 +13,7 @@ use crate::arrows::{ARROWS, Arrows};
 use crate::clashes::torn;
 use crate::descriptions::{Descriptions, POINTS};
 use crate::keys::{KEYS, empty_keys, key_point};
-use crate::marking::marked;
+use crate::marking::marks_from;
 use crate::schema::Schema;
 use std::marker::Model;
 
@@ -43,11 +43,10 @@ impl Findings<'_> {
     pub(crate) fn of(schema: &Schema) -> Findings<'_>
         ensures { result ≡ schema.now.rows.items }
     {
-        let rows = schema.rows.as_slice();
-        let web = Descriptions::of(rows);
+        let web = Descriptions::of(schema.rows());
         let overs = web.overs;
         let arrows = Arrows { overs };
-        let empty = empty_keys(rows);
+        let empty = empty_keys(schema);
         Findings {
             schema,
             web,
@@ -61,7 +60,7 @@ impl Findings<'_> {
         requires { to < 2048 }
         ensures { TellsLeads self.now from to result }
     {
-        let marks = marked(&self.web, from);
+        let marks = marks_from(&self.web, from);
         self.is_empty(&marks) || marks[to] == 1
     }
 
@@ -69,12 +68,12 @@ impl Findings<'_> {
     pub(crate) fn parted(&self, one: usize, two: usize) -> bool
         ensures { TellsParted self.now one two result }
     {
-        let first = marked(&self.web, one);
-        let second = marked(&self.web, two);
+        let first = marks_from(&self.web, one);
+        let second = marks_from(&self.web, two);
         if self.is_empty(&first) || self.is_empty(&second) {
             return true;
         }
-        torn::<Descriptions>(&self.schema.rows, &first, &second)
+        torn::<Descriptions>(self.schema.rows(), &first, &second)
     }
 
     /// Whether one arrow is empty or leads to another: an arrow is empty with its tail.
@@ -82,7 +81,7 @@ impl Findings<'_> {
         requires { (from < 32) × (to < 32) }
         ensures { Tells result (EmptyArrow self.now from ⊎ Leads (ArrowLink self.now) from to) }
     {
-        let marks: [u8; ARROWS] = marked(&self.arrows, from);
+        let marks: [u8; ARROWS] = marks_from(&self.arrows, from);
         self.empty[64 + 2 * from] == 1 || marks[to] == 1
     }
 
@@ -103,16 +102,16 @@ impl Findings<'_> {
         requires { (one < 32) × (two < 32) }
         ensures { Tells result (Clashing (ArrowLink self.now) (ArrowApart self.now) one two) }
     {
-        let first: [u8; ARROWS] = marked(&self.arrows, one);
-        let second: [u8; ARROWS] = marked(&self.arrows, two);
-        torn::<Arrows>(&self.schema.rows, &first, &second)
+        let first: [u8; ARROWS] = marks_from(&self.arrows, one);
+        let second: [u8; ARROWS] = marks_from(&self.arrows, two);
+        torn::<Arrows>(self.schema.rows(), &first, &second)
     }
 
     // Whether a description is empty, by what it leads to: two that clash, or a key that is empty.
     fn is_empty(&self, marks: &[u8; POINTS]) -> bool
         ensures { (d : Description) → Placed d → Reaches self.now d marks.now → Tells result (EmptyDescription self.now d) }
     {
-        torn::<Descriptions>(&self.schema.rows, marks, marks) || marks_empty(marks, &self.empty)
+        torn::<Descriptions>(self.schema.rows(), marks, marks) || marks_empty(marks, &self.empty)
     }
 }
 

@@ -14,10 +14,11 @@ ghost use Rattle.schema.specs.Keys.{Forward, ForwardEnd, Backward, keyed, EmptyK
 ghost use Rattle.schema.specs.Verdicts.{NoSharedCap, Tells};
 ghost use Rattle.std.proofs.Common.{rules};
 
-use crate::arrows::{Arrows, mark_all, torn_arrows};
+use crate::arrows::{Arrows, torn_arrows};
 use crate::descriptions::Descriptions;
+use crate::marking::marks_from;
 use crate::rivals::{list_rivals, torn_sets};
-use crate::row::Row;
+use crate::schema::Schema;
 use crate::set64::Set64;
 use search::web::Web;
 
@@ -59,15 +60,14 @@ impl Web for KeyLinks {
 }
 
 impl KeyLinks {
-    // The web of the keys of some rows.
-    fn of(rows: &[Row]) -> KeyLinks
-        requires { AllSound 64 32 rows.now }
-        ensures { KeyBuilt rows.now result }
+    // The web of the keys of a schema.
+    fn of(schema: &Schema) -> KeyLinks
+        ensures { KeyBuilt schema.now.rows.items result }
     {
-        let links = Descriptions::of(rows);
-        let rivals = list_rivals(rows, &links);
+        let links = Descriptions::of(schema.rows());
+        let rivals = list_rivals(schema.rows(), &links);
         let arrows = Arrows { overs: links.overs };
-        let broken = torn_arrows(rows, &arrows);
+        let broken = torn_arrows(schema, &arrows);
         KeyLinks {
             links,
             rivals,
@@ -80,8 +80,7 @@ impl KeyLinks {
         requires { key < 128 }
         ensures { (rows : List RowMeaning) → AllSound 64 32 rows → NoSharedCap rows → KeyBuilt rows self.now → Known rows key result }
     {
-        let mut marks = [0u8; KEYS];
-        mark_all(self, key, &mut marks);
+        let marks: [u8; KEYS] = marks_from(self, key);
         let classes = marked(&marks[0..64]);
         let ends = marked(&marks[64..KEYS]);
         let torn = self.tears(key, classes);
@@ -161,13 +160,11 @@ impl Web for Keys {
 }
 
 impl Keys {
-    /// What the keys of some rows lead to.
-    fn survey(rows: &[Row]) -> Keys
-        requires sound { AllSound 64 32 rows.now }
-        requires uncapped { NoSharedCap rows.now }
-        ensures { Surveyed rows.now 128 result }
+    /// What the keys of a schema lead to.
+    fn survey(schema: &Schema) -> Keys
+        ensures { Surveyed schema.now.rows.items 128 result }
     {
-        let web = KeyLinks::of(rows);
+        let web = KeyLinks::of(schema);
         let mut reaches = [Reach {
             classes: Set64::EMPTY,
             ends: Set64::EMPTY,
@@ -196,15 +193,10 @@ impl Keys {
 }
 
 /// A byte for each key: 1 if its description is empty, and else 0.
-pub(crate) fn empty_keys(rows: &[Row]) -> [u8; 129]
-    requires sound { AllSound 64 32 rows.now }
-    requires uncapped { NoSharedCap rows.now }
-    ensures { EmptyKeys rows.now result }
+pub(crate) fn empty_keys(schema: &Schema) -> [u8; 129]
+    ensures { EmptyKeys schema.now.rows.items result }
 {
-    let keys = Keys::survey(rows);
-    let mut marks = [0u8; KEYS + 1];
-    mark_all(&keys, KEYS, &mut marks);
-    marks
+    marks_from(&Keys::survey(schema), KEYS)
 }
 
 /// The point of a key in the web of descriptions.

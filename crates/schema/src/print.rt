@@ -59,10 +59,9 @@ fn put_text(bytes: &mut [u8], sheet: &SoundSheet) -> usize
         sheet.arrows,
         rows.len() as u16,
     );
-    let mut end = LINE_BYTES;
-    for row in rows {
-        put_line(bytes, end, row.letter, row.a, row.b, row.n);
-        end += LINE_BYTES;
+    for (k, row) in rows.iter().enumerate() {
+        let at = LINE_BYTES * (k + 1);
+        put_line(bytes, at, row.letter, row.a, row.b, row.n);
     }
-    end
+    LINE_BYTES * (rows.len() + 1)
 }

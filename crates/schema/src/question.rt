@@ -39,7 +39,7 @@ fn uncountable(schema: &Schema, asked: Row) -> bool
     ensures { Tells result (Uncountable schema.now.rows.items asked) }
 {
     if asked.letter == b'F' && asked.n >= 2 {
-        shared_arrows(&schema.rows).has(usize::from(asked.b) / 2)
+        shared_arrows(schema.rows()).has(usize::from(asked.b) / 2)
     } else {
         false
     }

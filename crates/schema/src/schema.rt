@@ -2,7 +2,8 @@
 ghost use Rattle.std.specs.Prelude.{◌≡◌, MatchResult};
 ghost use Rattle.std.proofs.Props.{props};
 ghost use Rattle.schema.specs.Copies.{CopyOf, sound_prop};
-ghost use Rattle.schema.specs.Verdicts.{Passes, CheckFaulty};
+ghost use Rattle.schema.specs.Rows.{AllSound};
+ghost use Rattle.schema.specs.Verdicts.{Passes, NoSharedCap, CheckFaulty};
 
 use crate::checks::check_caps;
 use crate::faults::CheckFault;
@@ -17,7 +18,7 @@ use arrayvec::ArrayVec;
 pub(crate) struct Schema {
     pub(crate) classes: u16,
     pub(crate) arrows: u16,
-    pub(crate) rows: ArrayVec<Row, MOST_ROWS>,
+    rows: ArrayVec<Row, MOST_ROWS>,
     ghost passes: { Passes classes arrows rows.items } by { Prim.hlevel (props, sound_prop) },
 }
 
@@ -38,5 +39,14 @@ impl Schema {
             arrows,
             rows,
         })
+    }
+
+    /// The rows. They are sound for the limits too.
+    pub(crate) fn rows(&self) -> &[Row]
+        ensures same { result.now ≡ self.now.rows.items }
+        ensures sound { AllSound 64 32 result.now }
+        ensures uncapped { NoSharedCap result.now }
+    {
+        self.rows.as_slice()
     }
 }

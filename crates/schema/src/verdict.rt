@@ -6,6 +6,7 @@ use crate::faults::VerdictFault;
 use crate::keys::empty_keys;
 use crate::schema::Schema;
 use crate::sheet::Sheet;
+use crate::tally::count_ones;
 
 /// Writes 1 for each name that the rows force empty and 0 for each other, classes first; leaves the later bytes, and
 /// answers the number of ones.
@@ -25,7 +26,7 @@ fn judge(schema: &Schema, table: &mut [u8]) -> Result<usize, VerdictFault>
     if table.len() < classes + arrows {
         return Err(VerdictFault::ShortTable);
     }
-    let empty = empty_keys(&schema.rows);
+    let empty = empty_keys(schema);
     write_names(table, classes, arrows, &empty);
     Ok(count_ones(&table[..classes + arrows]))
 }
@@ -43,16 +44,4 @@ fn write_names(table: &mut [u8], classes: usize, arrows: usize, empty: &[u8])
     for arrow in 0..arrows {
         table[classes + arrow] = empty[64 + 2 * arrow];
     }
-}
-
-fn count_ones(bytes: &[u8]) -> usize
-    ensures { result ≡ count_by (λ b. nat_eq b 1) bytes.now }
-{
-    let mut ones = 0;
-    for byte in bytes {
-        if *byte == 1 {
-            ones += 1;
-        }
-    }
-    ones
 }

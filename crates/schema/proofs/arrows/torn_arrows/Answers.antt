@@ -1,6 +1,8 @@
-use Rattle.std.proofs.Common.{◌≡◌, ℕ, ◌+◌, sym, subst, arith}
+use Rattle.std.proofs.Common.{◌≡◌, ℕ, ◌+◌, List, sym, subst, arith}
+use Rattle.schema.specs.declared.row.Row.{Row}
 use Rattle.schema.specs.Masks.{Gathers}
 use Rattle.schema.specs.Keys.{ArrowReaches, ArrowTorn}
+use Rattle.schema.specs.Points.{Told}
 use Rattle.schema.proofs.Gather.{gathers_none, gathers_more, gathers_past}
 use Rattle.schema.proofs.Marks.{arrow_reaches}
 use Rattle.schema.proofs.Torn.{arrow_torn, arrow_torn_by}
@@ -12,21 +14,25 @@ loop-arrow-init c = gathers_none
 
 pub loop-arrow-preserved : goal.loop-arrow-preserved
 loop-arrow-preserved c =
-    let rows = c.args.rows.now in
+    let rows = c.rows-rows.result.now in
+    let sound = c.rows-rows.ensures.sound in
     let w = c.args.arrows.now in
     let p = c.loop-arrow.arrow in
-    let marks = c.mark_all.new.marks in
-    let told : ArrowReaches rows p marks = arrow_reaches rows w c.requires.told c.requires.sound p c.loop-arrow-test.true marks c.mark_all.ensures in
+    let marks = c.marks_from-marks.result in
+    let told : ArrowReaches rows p marks = arrow_reaches rows w (subst (Told 80 w.overs) (sym c.rows-rows.ensures.same) c.requires) sound p c.loop-arrow-test.true marks c.marks_from-marks.ensures in
     elim c.if-torn.branch [
       | then-torn v ↦
           subst (Gathers (ArrowTorn rows) (p + 1)) (sym v.found-is)
-          (gathers_more c.loop-arrow.invariant (arrow_torn rows c.requires.sound p p marks marks told told v.if-torn.ensures)
+          (gathers_more c.loop-arrow.invariant (arrow_torn rows sound p p marks marks told told v.if-torn.ensures)
           v.insert.ensures)
       | else-torn v ↦
           subst (Gathers (ArrowTorn rows) (p + 1)) (sym v.found-is)
           (gathers_past c.loop-arrow.invariant
-          (λ t. v.if-torn.ensures (arrow_torn_by rows c.requires.sound p p marks marks told told t)))
+          (λ t. v.if-torn.ensures (arrow_torn_by rows sound p p marks marks told told t)))
     ]
 
 pub returns : goal.returns
-returns c = let e : c.loop-arrow.arrow ≡ 32 = omega arith in subst (λ (n : ℕ). Gathers (ArrowTorn c.args.rows.now) n c.loop-arrow.found) e c.loop-arrow.invariant
+returns c =
+    let e : c.loop-arrow.arrow ≡ 32 = omega arith in
+    let r = c.rows-rows in
+    subst (λ (rs : List Row). Gathers (ArrowTorn rs) 32 c.loop-arrow.found) r.ensures.same (subst (λ (n : ℕ). Gathers (ArrowTorn r.result.now) n c.loop-arrow.found) e c.loop-arrow.invariant)

@@ -1,5 +1,6 @@
 use Rattle.schema.proofs.Doom.{marked_empty}
+use Rattle.schema.proofs.Schemas.{schema_sound}
 use Rattle.schema.proofs.keys.empty_keys.Goals as goal
 
 pub returns : goal.returns
-returns c = marked_empty c.args.rows.now c.requires.sound c.survey-keys.result c.survey-keys.ensures c.mark_all.new.marks c.mark_all.ensures
+returns c = marked_empty c.args.schema.now.rows.items (schema_sound c.args.schema.now) c.survey.result c.survey.ensures c.marks_from.result c.marks_from.ensures

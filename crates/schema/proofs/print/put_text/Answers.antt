@@ -1,4 +1,4 @@
-use Rattle.std.proofs.Common.{List, length, get_or, ap, ◌∙◌, subst, arith}
+use Rattle.std.proofs.Common.{List, length, get_or, refl, ap, ◌∙◌, subst, arith}
 use Rattle.std.proofs.lemmas.List.{take_all}
 use Rattle.schema.specs.declared.row.Row.{Row}
 use Rattle.schema.specs.Rows.{◌∈◌}
@@ -10,26 +10,24 @@ use Rattle.schema.proofs.RowLines.{lines_more, text_begun}
 use Rattle.schema.proofs.Uniques.{sound_few}
 use Rattle.schema.proofs.print.put_text.Goals as goal
 
-pub put_line-requires-in-loop-row : goal.put_line-requires-in-loop-row
-put_line-requires-in-loop-row c =
+pub put_line-requires-in-loop-k : goal.put_line-requires-in-loop-k
+put_line-requires-in-loop-k c =
     let sheet = c.args.sheet.now in
     let rows = c.as_slice-rows.result.now in
-    let k = c.loop-row.row-index in
+    let k = c.loop-k.k in
     let few = sound_few sheet.classes sheet.arrows (get_or rows k blank_row) sheet.small.few_classes sheet.small.few_arrows
-    (sheet.sound (get_or rows k blank_row) (subst (λ (rs : List Row). get_or rows k blank_row ∈ rs) c.as_slice-rows.ensures.value (∈_at rows k blank_row c.loop-row-test.true))) in
-    (omega (arith, few.a_few), (omega (arith, few.b_few), (omega (arith, few.n_few), omega (arith, c.loop-row.auto.bytes, c.loop-row.invariant.1, c.requires, ap length c.as_slice-rows.ensures.value))))
+    (sheet.sound (get_or rows k blank_row) (subst (λ (rs : List Row). get_or rows k blank_row ∈ rs) c.as_slice-rows.ensures.value (∈_at rows k blank_row c.loop-k-test.true))) in
+    (omega (arith, few.a_few), (omega (arith, few.b_few), (omega (arith, few.n_few), omega (arith, c.loop-k.auto.bytes, c.requires, ap length c.as_slice-rows.ensures.value))))
 
-pub loop-row-preserved : goal.loop-row-preserved
-loop-row-preserved c = (
-  lines_more 14 c.as_slice-rows.result.now c.loop-row.row-index c.loop-row.end blank_row c.put_line.new.bytes _ _ (omega arith)
-      c.loop-row-test.true (omega (arith, c.loop-row.invariant.1)) c.loop-row.invariant.0 c.put_line-in-loop-row.ensures,
-  omega (arith, c.loop-row.invariant.1),
-)
+pub loop-k-preserved : goal.loop-k-preserved
+loop-k-preserved c =
+    lines_more 14 c.as_slice-rows.result.now c.loop-k.k _ blank_row c.put_line.new.bytes _ _ (omega arith)
+    c.loop-k-test.true (omega arith) c.loop-k.invariant c.put_line-in-loop-k.ensures
 
 pub returns : goal.returns
 returns c =
     let sheet = c.args.sheet.now in
     let rows = c.as_slice-rows.result.now in
     rw (← c.as_slice-rows.ensures.value)
-    (text_begun sheet.classes sheet.arrows rows c.loop-row.end c.args.bytes.now _ _ (omega (arith, c.loop-row.invariant.1)) (omega (arith, c.loop-row.invariant.1, c.requires, ap length c.as_slice-rows.ensures.value))
-    c.put_line.ensures (c.loop-row.invariant.0 ∙ ap (λ l. spliced 14 (row_lines l) c.put_line.new.bytes) (take_all c.loop-row.row-index rows c.loop-row-test.false)))
+    (text_begun sheet.classes sheet.arrows rows _ c.args.bytes.now _ _ refl (omega (arith, c.requires, ap length c.as_slice-rows.ensures.value))
+    c.put_line.ensures (c.loop-k.invariant ∙ ap (λ l. spliced 14 (row_lines l) c.put_line.new.bytes) (take_all c.loop-k.k rows c.loop-k-test.false)))

@@ -15,7 +15,7 @@ returns-then-asked-ge2 c =
     let r = c.args.asked in
     let rows = c.args.schema.now.rows.items in
     let set = c.shared_arrows.result in
-    let shared : Shared rows set = subst (λ (rs : List Row). Shared rs set) c.deref.ensures.0 c.shared_arrows.ensures in
+    let shared : Shared rows set = subst (λ (rs : List Row). Shared rs set) c.rows.ensures.same c.shared_arrows.ensures in
     let here : c.from.result / 2 ≡ arrow r.b = omega (arith, c.from.ensures) in
     tells_same c.has.result
     (λ (s : Alone rows (arrow r.b) → ⊥). (r.a, r.b, r.n, sym (row_is r 70 r.a r.b r.n c.if-asked-eq70.true refl refl refl), c.if-asked-ge2.true, s))

@@ -24,9 +24,9 @@ returns-else-self-from-eq1 c =
     let found = found_as c.self.view_is c.self.invariant in
     let sound = found.sound in
     let p = c.args.from in
-    let marks = c.marked-marks.result in
+    let marks = c.marks_from-marks.result in
     let b = get_or it.empty (64 + 2 * p) 0 in
     tells_second _ (Leads (ArrowLink rows) p c.args.to)
     (λ z. c.if-self-from-eq1.false (bit_holds (arrow_bit rows it.empty b p c.requires.0 refl found.keys) z))
     (tells_bit (get_or marks c.args.to 0)
-    (arrow_reaches rows it.arrows found.overs sound p c.requires.0 marks c.marked-marks.ensures c.args.to c.requires.1))
+    (arrow_reaches rows it.arrows found.overs sound p c.requires.0 marks c.marks_from-marks.ensures c.args.to c.requires.1))

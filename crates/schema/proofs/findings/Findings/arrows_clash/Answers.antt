@@ -14,11 +14,11 @@ returns c =
     let rows = c.args.self.now in
     let found = found_as c.self.view_is c.self.invariant in
     let sound = found.sound in
-    let torn = subst (λ (rs : List Row). Tells c.torn.result (TornBy arrows_apart rs c.marked-first.result c.marked-second.result)) (c.deref.ensures.0 ∙ c.self.view_is) c.torn.ensures in
+    let torn = subst (λ (rs : List Row). Tells c.torn.result (TornBy arrows_apart rs c.marks_from-first.result c.marks_from-second.result)) (c.rows.ensures.same ∙ c.self.view_is) c.torn.ensures in
     let p = c.args.one in
     let q = c.args.two in
-    let first = c.marked-first.result in
-    let second = c.marked-second.result in
-    let from-p = arrow_reaches rows it.arrows found.overs sound p c.requires.0 first c.marked-first.ensures in
-    let from-q = arrow_reaches rows it.arrows found.overs sound q c.requires.1 second c.marked-second.ensures in
+    let first = c.marks_from-first.result in
+    let second = c.marks_from-second.result in
+    let from-p = arrow_reaches rows it.arrows found.overs sound p c.requires.0 first c.marks_from-first.ensures in
+    let from-q = arrow_reaches rows it.arrows found.overs sound q c.requires.1 second c.marks_from-second.ensures in
     tells_same c.torn.result (arrow_torn rows sound p q first second from-p from-q) (arrow_torn_by rows sound p q first second from-p from-q) torn

@@ -12,7 +12,7 @@ returns-then-torn c d h told =
     let rows = c.args.self.now in
     let found = found_as c.self.view_is c.self.invariant in
     let sound = found.sound in
-    let torn = subst (λ (rs : List Row). TornBy descriptions_apart rs c.args.marks.now c.args.marks.now) (c.deref.ensures.0 ∙ c.self.view_is) c.if-torn.ensures in
+    let torn = subst (λ (rs : List Row). TornBy descriptions_apart rs c.args.marks.now c.args.marks.now) (c.rows.ensures.same ∙ c.self.view_is) c.if-torn.ensures in
     tells_true c.if-torn.true
     (torn_empties rows sound d c.args.marks.now it.empty told found.keys torn)
 
@@ -22,7 +22,7 @@ returns-else-torn c d h told =
     let rows = c.args.self.now in
     let found = found_as c.self.view_is c.self.invariant in
     let sound = found.sound in
-    let torn = subst (λ (rs : List Row). TornBy descriptions_apart rs c.args.marks.now c.args.marks.now → ⊥) (c.deref.ensures.0 ∙ c.self.view_is) c.if-torn.ensures in
+    let torn = subst (λ (rs : List Row). TornBy descriptions_apart rs c.args.marks.now c.args.marks.now → ⊥) (c.rows.ensures.same ∙ c.self.view_is) c.if-torn.ensures in
     let marks = c.args.marks.now in
     tells_same c.marks_empty.result (marked_empties rows sound d marks it.empty told found.keys)
     (λ z. ⊎_elim (λ t. absurd (torn t)) (λ m. m) (empty_marked rows sound d marks it.empty told found.keys h z))

@@ -13,8 +13,8 @@ returns-then-is_empty c d u h k e f =
     let rows = c.args.self.now in
     let found = found_as c.self.view_is c.self.invariant in
     let sound = found.sound in
-    let marks = c.marked-marks.result in
-    let told = reaches_from rows it.web found.links sound d h c.args.from e marks c.marked-marks.ensures in
+    let marks = c.marks_from-marks.result in
+    let told = reaches_from rows it.web found.links sound d h c.args.from e marks c.marks_from-marks.ensures in
     tells_true c.if-is_empty.true (inl (c.if-is_empty.ensures d h told))
 
 pub returns-else-is_empty : goal.returns-else-is_empty
@@ -23,7 +23,7 @@ returns-else-is_empty c d u h k e f =
     let rows = c.args.self.now in
     let found = found_as c.self.view_is c.self.invariant in
     let sound = found.sound in
-    let marks = c.marked-marks.result in
-    let told = reaches_from rows it.web found.links sound d h c.args.from e marks c.marked-marks.ensures in
+    let marks = c.marks_from-marks.result in
+    let told = reaches_from rows it.web found.links sound d h c.args.from e marks c.marks_from-marks.ensures in
     tells_second _ (Leads (Link rows) d u) (c.if-is_empty.ensures d h told)
     (tells_bit (get_or marks c.args.to 0) (subst (λ (i : ℕ). Bit (get_or marks i 0) (Leads (Link rows) d u)) (sym f) (told u k)))

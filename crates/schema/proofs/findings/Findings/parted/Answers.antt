@@ -17,8 +17,8 @@ returns-then-is_empty c d u h k e f =
     let rows = c.args.self.now in
     let found = found_as c.self.view_is c.self.invariant in
     let sound = found.sound in
-    let from-d = reaches_from rows it.web found.links sound d h c.args.one e c.marked-first.result c.marked-first.ensures in
-    let from-u = reaches_from rows it.web found.links sound u k c.args.two f c.marked-second.result c.marked-second.ensures in
+    let from-d = reaches_from rows it.web found.links sound d h c.args.one e c.marks_from-first.result c.marks_from-first.ensures in
+    let from-u = reaches_from rows it.web found.links sound u k c.args.two f c.marks_from-second.result c.marks_from-second.ensures in
     elim c.then-is_empty.branch [
       | then-is_empty-via-then-is_empty v ↦ inl (v.if-is_empty.ensures d h from-d)
       | then-is_empty-via-else-is_empty+then-is_empty-2 v ↦ inr (inl (v.if-is_empty-2.ensures u k from-u))
@@ -30,11 +30,11 @@ returns c d u h k e f =
     let rows = c.args.self.now in
     let found = found_as c.self.view_is c.self.invariant in
     let sound = found.sound in
-    let torn = subst (λ (rs : List Row). Tells c.torn.result (TornBy descriptions_apart rs c.marked-first.result c.marked-second.result)) (c.deref.ensures.0 ∙ c.self.view_is) c.torn.ensures in
-    let first = c.marked-first.result in
-    let second = c.marked-second.result in
-    let from-d = reaches_from rows it.web found.links sound d h c.args.one e first c.marked-first.ensures in
-    let from-u = reaches_from rows it.web found.links sound u k c.args.two f second c.marked-second.ensures in
+    let torn = subst (λ (rs : List Row). Tells c.torn.result (TornBy descriptions_apart rs c.marks_from-first.result c.marks_from-second.result)) (c.rows.ensures.same ∙ c.self.view_is) c.torn.ensures in
+    let first = c.marks_from-first.result in
+    let second = c.marks_from-second.result in
+    let from-d = reaches_from rows it.web found.links sound d h c.args.one e first c.marks_from-first.ensures in
+    let from-u = reaches_from rows it.web found.links sound u k c.args.two f second c.marks_from-second.ensures in
     let Clash = Clashing (Link rows) (Apart rows) d u in
     tells_second c.torn.result (EmptyDescription rows u ⊎ Clash) (c.if-is_empty.ensures d h from-d)
     (tells_second c.torn.result Clash (c.if-is_empty-2.ensures u k from-u)

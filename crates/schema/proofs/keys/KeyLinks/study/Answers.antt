@@ -4,14 +4,14 @@ use Rattle.schema.proofs.Studied.{key_known}
 use Rattle.schema.proofs.keys.KeyLinks.study.Goals as goal
 
 pub marked-classes-requires : goal.marked-classes-requires
-marked-classes-requires c = omega (arith, length-take 64 c.mark_all.new.marks)
+marked-classes-requires c = omega (arith, length-take 64 c.marks_from-marks.result)
 
 pub returns : goal.returns
 returns c rows sound uncapped built =
-    let marks = c.mark_all.new.marks in
+    let marks = c.marks_from-marks.result in
     let first = take 64 marks in
     let last = take 64 (drop 64 marks) in
-    key_known rows c.args.self.now built sound uncapped c.args.key c.requires marks c.mark_all.ensures
+    key_known rows c.args.self.now built sound uncapped c.args.key c.requires marks c.marks_from-marks.ensures
     (record { classes = c.marked-classes.result; ends = c.marked-ends.result; torn = c.tears-torn.result })
     (subst (λ (n : ℕ). Gathers (λ x. get_or first x 0 ≡ 1) n c.marked-classes.result) (omega (arith, length-take 64 marks)) c.marked-classes.ensures)
     (subst (λ (n : ℕ). Gathers (λ x. get_or last x 0 ≡ 1) n c.marked-ends.result) (omega (arith, length-take 64 (drop 64 marks), length-drop 64 marks)) c.marked-ends.ensures)
