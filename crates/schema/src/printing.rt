@@ -11,11 +11,7 @@ pub(crate) fn put_line(bytes: &mut [u8], at: usize, letter: u8, a: u16, b: u16, 
     requires { (a ≤ 9999) × ((b ≤ 9999) × ((n ≤ 9999) × (at + 14 ≤ length bytes.old))) }
     ensures { bytes.new ≡ take at bytes.old ++ (line letter a b n ++ drop (at + 14) bytes.old) }
 {
-    bytes[at] = letter;
-    put_group(bytes, at + 1, a);
-    put_group(bytes, at + 5, b);
-    put_group(bytes, at + 9, n);
-    bytes[at + 13] = b'\n';
+    bytes[at..at + LINE_BYTES].copy_from_slice(&line_of(letter, a, b, n));
 }
 
 /// Writes a line for each place of the table that holds 1, from `at` on, and answers where they end.
@@ -34,16 +30,20 @@ pub(crate) fn put_names(bytes: &mut [u8], at: usize, letter: u8, table: &[u8]) -
     end
 }
 
-// Writes the four columns of a number from `at` on.
-fn put_group(bytes: &mut [u8], at: usize, n: u16)
-    requires { (n ≤ 9999) × (at + 4 ≤ length bytes.old) }
-    ensures { bytes.new ≡ spliced at (group n) bytes.old }
+// A line is put together as `lines` takes it apart.
+fn line_of(letter: u8, a: u16, b: u16, n: u16) -> [u8; LINE_BYTES]
+    requires { (a ≤ 9999) × ((b ≤ 9999) × (n ≤ 9999)) }
+    ensures { result ≡ line letter a b n }
 {
-    let columns = group_of(n);
-    bytes[at..at + 4].copy_from_slice(&columns);
+    let [a0, a1, a2, a3] = group_of(a);
+    let [b0, b1, b2, b3] = group_of(b);
+    let [n0, n1, n2, n3] = group_of(n);
+    [
+        letter, a0, a1, a2, a3, b0, b1, b2, b3, n0, n1, n2, n3, b'\n',
+    ]
 }
 
-// The four columns of a number: its digits, blanks to their left.
+// The four columns of a number: its digits, blanks to their left. By hand, since `write!` can fail and a line cannot.
 fn group_of(n: u16) -> [u8; 4]
     requires { n ≤ 9999 }
     ensures { result ≡ group n }

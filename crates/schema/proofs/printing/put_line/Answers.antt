@@ -1,10 +1,8 @@
-use Rattle.std.proofs.Common.{arith}
-use Rattle.std.proofs.lemmas.List.{length-set}
-use Rattle.schema.proofs.Splices.{line_spliced}
+use Rattle.std.proofs.Common.{◌∙◌, arith}
+use Rattle.schema.specs.Texts.{line}
+use Rattle.schema.proofs.Splices.{part_spliced}
 use Rattle.schema.proofs.printing.put_line.Goals as goal
 
 pub returns : goal.returns
 returns c =
-    let s = c.args.bytes.now in
-    line_spliced c.args.at c.args.letter c.args.a c.args.b c.args.n s _ _ _ (omega arith)
-    (omega (arith, length-set s c.args.at c.args.letter)) c.put_group.ensures c.put_group-2.ensures c.put_group-3.ensures
+    part_spliced c.args.at _ c.args.bytes.now _ (line c.args.letter c.args.a c.args.b c.args.n) (c.copy_from_slice.ensures.after ∙ c.line_of.ensures) (omega arith)
