@@ -1,11 +1,11 @@
 -- The sets of a web after one more row.
 use Rattle.std.proofs.Common.{◌≡◌, ℕ, zero, suc, ◌+◌, ◌*◌, ◌<◌, ◌≤◌, ◌⊎◌, List, [], ◌∷◌, ◌++◌, length, get_or, set, replicate, sym, refl, ap, ◌∙◌, subst, inl, inr, ⊎_elim, arith, get_or-set_other, get_or-set_same}
 use Rattle.std.proofs.lemmas.Bool.{cases_eq}
-use Rattle.std.proofs.lemmas.List.{get_or_default}
+use Rattle.std.proofs.lemmas.List.{get_or_default, length-set, length-replicate}
 use Rattle.schema.specs.declared.row.Row.{Row}
 use Rattle.schema.specs.Masks.{bit, Member, Joins}
 use Rattle.schema.specs.Rows.{◌∈◌, shape_of, Fits, Sound}
-use Rattle.schema.specs.Points.{plain, Told, Needed}
+use Rattle.schema.specs.Points.{plain, count, Told, Needed}
 use Rattle.schema.proofs.Bits.{bit_zero}
 use Rattle.schema.proofs.Members.{∈_left, ∈_last, ∈_push}
 
@@ -72,72 +72,100 @@ told_other l sets rows r e t =
 abbrev needing : ℕ → ℕ → ℕ → Row
 needing a e n = record { letter = 70; a = a; b = e; n = n }
 
-pub needed_other : (sets counts : List ℕ) (rows : List Row) (r : Row) → (r.letter ≡ 70 → ⊥) → Needed sets counts rows → Needed sets counts (rows ++ r ∷ [])
+pub needed_other : (sets : List ℕ) (counts : List (List ℕ)) (rows : List Row) (r : Row) → (r.letter ≡ 70 → ⊥) → Needed sets counts rows → Needed sets counts (rows ++ r ∷ [])
 needed_other sets counts rows r x t =
     record {
+      wide = t.wide;
       some = t.some;
-      only = λ a e l h. ∈_left (needing a e (get_or counts (64 * a + e) 0)) rows (r ∷ []) (t.only a e l h);
+      only = λ a e l h. ∈_left (needing a e (count counts a e)) rows (r ∷ []) (t.only a e l h);
       all = λ a e n m. ⊎_elim (λ (k : needing a e n ∈ rows). t.all a e n k) (λ (k : needing a e n ≡ r). absurd (x (sym (ap (λ (q : Row). q.letter) k)))) (∈_push (needing a e n) r rows m);
     }
 
 -- one more need that is no higher than what is known, or a higher one
-module _ (sets counts : List ℕ) (rows : List Row) (r : Row) (v : ℕ) (x : r.letter ≡ 70) (w : r.a < length sets) (pos : 1 ≤ r.n) (end : r.b < 64)
+module _ (sets : List ℕ) (counts : List (List ℕ)) (rows : List Row) (r : Row) (v : ℕ) (x : r.letter ≡ 70) (w : r.a < length sets) (pos : 1 ≤ r.n) (end : r.b < 64)
     (j : Joins (get_or sets r.a 0) r.b v) (t : Needed sets counts rows) where
-  pub needed_lower : r.n ≤ get_or counts (64 * r.a + r.b) 0 → Needed (set sets r.a v) counts (rows ++ r ∷ [])
+  same : (a e : ℕ) → a ≡ r.a → e ≡ r.b → count counts a e ≡ count counts r.a r.b
+  same a e p q = ap (λ (i : ℕ). count counts i e) p ∙ ap (λ (i : ℕ). count counts r.a i) q
+
+  pub needed_lower : r.n ≤ count counts r.a r.b → Needed (set sets r.a v) counts (rows ++ r ∷ [])
   needed_lower h =
       record {
+        wide = t.wide;
         some = λ a e l m. ⊎_elim (λ (k : Member (get_or sets a 0) e). t.some a e l k)
-            (λ (k : (a ≡ r.a) × (e ≡ r.b)). let q : get_or counts (64 * a + e) 0 ≡ get_or counts (64 * r.a + r.b) 0 = ap (λ (i : ℕ). get_or counts i 0) (omega (arith, k.0, k.1)) in omega arith)
+            (λ (k : (a ≡ r.a) × (e ≡ r.b)). let q = same a e k.0 k.1 in omega arith)
             (member_more sets r.a r.b v w j a e m);
-        only = λ a e l m. ∈_left (needing a e (get_or counts (64 * a + e) 0)) rows (r ∷ []) (t.only a e l m);
+        only = λ a e l m. ∈_left (needing a e (count counts a e)) rows (r ∷ []) (t.only a e l m);
         all = λ a e n m. ⊎_elim
             (λ (k : needing a e n ∈ rows). let q = t.all a e n k in (member_kept sets r.a r.b v w j a e q.0, q.1))
             (λ (k : needing a e n ≡ r).
             let ka : a ≡ r.a = ap (λ (q : Row). q.a) k in
             let kb : e ≡ r.b = ap (λ (q : Row). q.b) k in
             let kn : n ≡ r.n = ap (λ (q : Row). q.n) k in
-            let q : get_or counts (64 * a + e) 0 ≡ get_or counts (64 * r.a + r.b) 0 = ap (λ (i : ℕ). get_or counts i 0) (omega arith) in
+            let q = same a e ka kb in
             (member_new sets r.a r.b v w j a e ka kb, omega arith))
             (∈_push (needing a e n) r rows m);
       }
 
-  pub needed_higher : 64 * r.a + r.b < length counts → get_or counts (64 * r.a + r.b) 0 < r.n
-      → Needed (set sets r.a v) (set counts (64 * r.a + r.b) r.n) (rows ++ r ∷ [])
-  needed_higher room h =
-      let p = 64 * r.a + r.b in
-      let here : (i : ℕ) → i ≡ p → get_or (set counts p r.n) i 0 ≡ r.n = λ i e. ap (λ (k : ℕ). get_or (set counts p r.n) k 0) e ∙ get_or-set_same counts p r.n 0 room in
-      let there : (i : ℕ) → (i ≡ p → ⊥) → get_or (set counts p r.n) i 0 ≡ get_or counts i 0 = λ i e. get_or-set_other counts p i r.n 0 e in
-      record {
-        some = λ a e l m. ⊎_elim
-            (λ (q : 64 * a + e ≡ p). omega (arith, here (64 * a + e) q))
-            (λ (q : 64 * a + e ≡ p → ⊥). ⊎_elim
-            (λ (k : Member (get_or sets a 0) e). omega (arith, there (64 * a + e) q, t.some a e l k))
-            (λ (k : (a ≡ r.a) × (e ≡ r.b)). absurd (q (omega (arith, k.0, k.1))))
-            (member_more sets r.a r.b v w j a e m))
-            (cases_eq (64 * a + e) p);
-        only = λ a e l m. ⊎_elim
-            (λ (q : 64 * a + e ≡ p).
-            let ka : r.a ≡ a = omega arith in
-            let kb : r.b ≡ e = omega arith in
-            subst (λ (s : Row). s ∈ (rows ++ r ∷ [])) (sym (row_is r 70 a e (get_or (set counts p r.n) (64 * a + e) 0) x ka kb (sym (here (64 * a + e) q)))) (∈_last r rows))
-            (λ (q : 64 * a + e ≡ p → ⊥).
-            let s = there (64 * a + e) q in
-            subst (λ (n : ℕ). needing a e n ∈ (rows ++ r ∷ [])) (sym s)
-            (∈_left (needing a e (get_or counts (64 * a + e) 0)) rows (r ∷ []) (t.only a e l (omega (arith, s, m)))))
-            (cases_eq (64 * a + e) p);
-        all = λ a e n m. ⊎_elim
-            (λ (k : needing a e n ∈ rows). let q = t.all a e n k in (
-              member_kept sets r.a r.b v w j a e q.0,
-              ⊎_elim (λ (s : 64 * a + e ≡ p). let z : get_or counts (64 * a + e) 0 ≡ get_or counts p 0 = ap (λ (i : ℕ). get_or counts i 0) s in omega (arith, here (64 * a + e) s, q.1))
-                  (λ (s : 64 * a + e ≡ p → ⊥). omega (arith, there (64 * a + e) s, q.1)) (cases_eq (64 * a + e) p),
-            ))
-            (λ (k : needing a e n ≡ r).
-            let ka : a ≡ r.a = ap (λ (q : Row). q.a) k in
-            let kb : e ≡ r.b = ap (λ (q : Row). q.b) k in
-            let kn : n ≡ r.n = ap (λ (q : Row). q.n) k in
-            (member_new sets r.a r.b v w j a e ka kb, omega (arith, here (64 * a + e) (omega arith))))
-            (∈_push (needing a e n) r rows m);
-      }
+  -- the row's count in the place of a lower one
+  module _ (line : List ℕ) (is : line ≡ get_or counts r.a []) (la : r.a < length counts) (lb : r.b < length line) where
+    abbrev counts' : List (List ℕ)
+    counts' = set counts r.a (set line r.b r.n)
+
+    here : (a e : ℕ) → a ≡ r.a → e ≡ r.b → count counts' a e ≡ r.n
+    here a e p q =
+        ap (λ (i : ℕ). count counts' i e) p ∙ ap (λ (l : List ℕ). get_or l e 0) (get_or-set_same counts r.a (set line r.b r.n) [] la)
+        ∙ ap (λ (i : ℕ). get_or (set line r.b r.n) i 0) q ∙ get_or-set_same line r.b r.n 0 lb
+
+    beside : (a e : ℕ) → a ≡ r.a → (e ≡ r.b → ⊥) → count counts' a e ≡ count counts a e
+    beside a e p n =
+        ap (λ (i : ℕ). count counts' i e) p ∙ ap (λ (l : List ℕ). get_or l e 0) (get_or-set_same counts r.a (set line r.b r.n) [] la)
+        ∙ get_or-set_other line r.b e r.n 0 n ∙ ap (λ (l : List ℕ). get_or l e 0) is ∙ sym (ap (λ (i : ℕ). count counts i e) p)
+
+    there : (a e : ℕ) → ((a ≡ r.a) × (e ≡ r.b) → ⊥) → count counts' a e ≡ count counts a e
+    there a e n =
+        ⊎_elim (λ (p : a ≡ r.a). beside a e p (λ q. n (p, q)))
+        (λ (p : a ≡ r.a → ⊥). ap (λ (l : List ℕ). get_or l e 0) (get_or-set_other counts r.a a (set line r.b r.n) [] p))
+        (cases_eq a r.a)
+
+    place : (a e : ℕ) → ((a ≡ r.a) × (e ≡ r.b)) ⊎ ((a ≡ r.a) × (e ≡ r.b) → ⊥)
+    place a e =
+        ⊎_elim (λ (p : a ≡ r.a). ⊎_elim (λ (q : e ≡ r.b). inl (p, q)) (λ (q : e ≡ r.b → ⊥). inr (λ h. q h.1)) (cases_eq e r.b))
+        (λ (p : a ≡ r.a → ⊥). inr (λ h. p h.0)) (cases_eq a r.a)
+
+    pub needed_higher : count counts r.a r.b < r.n → Needed (set sets r.a v) counts' (rows ++ r ∷ [])
+    needed_higher h =
+        record {
+          wide = λ a l. ⊎_elim
+              (λ (p : a ≡ r.a).
+              ap (λ (i : ℕ). length (get_or counts' i [])) p ∙ ap (λ (l : List ℕ). length l) (get_or-set_same counts r.a (set line r.b r.n) [] la) ∙ length-set line r.b r.n
+              ∙ ap (λ (l : List ℕ). length l) is ∙ t.wide r.a (omega arith))
+              (λ (p : a ≡ r.a → ⊥). ap (λ (l : List ℕ). length l) (get_or-set_other counts r.a a (set line r.b r.n) [] p) ∙ t.wide a l)
+              (cases_eq a r.a);
+          some = λ a e l m. ⊎_elim
+              (λ (q : (a ≡ r.a) × (e ≡ r.b)). omega (arith, here a e q.0 q.1))
+              (λ (q : (a ≡ r.a) × (e ≡ r.b) → ⊥).
+              ⊎_elim (λ (k : Member (get_or sets a 0) e). omega (arith, there a e q, t.some a e l k)) (λ (k : (a ≡ r.a) × (e ≡ r.b)). absurd (q k)) (member_more sets r.a r.b v w j a e m))
+              (place a e);
+          only = λ a e l m. ⊎_elim
+              (λ (q : (a ≡ r.a) × (e ≡ r.b)).
+              subst (λ (s : Row). s ∈ (rows ++ r ∷ [])) (sym (row_is r 70 a e (count counts' a e) x (sym q.0) (sym q.1) (sym (here a e q.0 q.1)))) (∈_last r rows))
+              (λ (q : (a ≡ r.a) × (e ≡ r.b) → ⊥).
+              let s = there a e q in
+              subst (λ (n : ℕ). needing a e n ∈ (rows ++ r ∷ [])) (sym s) (∈_left (needing a e (count counts a e)) rows (r ∷ []) (t.only a e l (omega (arith, s, m)))))
+              (place a e);
+          all = λ a e n m. ⊎_elim
+              (λ (k : needing a e n ∈ rows). let q = t.all a e n k in (
+                member_kept sets r.a r.b v w j a e q.0,
+                ⊎_elim (λ (s : (a ≡ r.a) × (e ≡ r.b)). omega (arith, here a e s.0 s.1, same a e s.0 s.1, q.1))
+                    (λ (s : (a ≡ r.a) × (e ≡ r.b) → ⊥). omega (arith, there a e s, q.1)) (place a e),
+              ))
+              (λ (k : needing a e n ≡ r).
+              let ka : a ≡ r.a = ap (λ (q : Row). q.a) k in
+              let kb : e ≡ r.b = ap (λ (q : Row). q.b) k in
+              let kn : n ≡ r.n = ap (λ (q : Row). q.n) k in
+              (member_new sets r.a r.b v w j a e ka kb, omega (arith, here a e ka kb)))
+              (∈_push (needing a e n) r rows m);
+        }
 
 -- what a sound row of a letter keeps to
 pub fits_at : (r : Row) (l : ℕ) → r.letter ≡ l → Sound 64 32 r → Fits 64 32 r (shape_of l)
@@ -156,10 +184,21 @@ told_none l n =
       all = λ a b m. absurd m;
     }
 
-pub needed_none : (n m : ℕ) → Needed (replicate n 0) (replicate m 0) []
-needed_none n m =
+lines_at : (n m a e : ℕ) → count (replicate n (replicate m 0)) a e ≡ 0
+lines_at zero m a e = refl
+lines_at (suc n) m zero e = zeros_at m e
+lines_at (suc n) m (suc a) e = lines_at n m a e
+
+lines_long : (n m a : ℕ) → a < n → length {A = ℕ} (get_or (replicate n (replicate m 0)) a []) ≡ m
+lines_long zero m a h = absurd (omega arith)
+lines_long (suc n) m zero h = length-replicate m 0
+lines_long (suc n) m (suc a) h = lines_long n m a (omega arith)
+
+pub needed_none : (n : ℕ) → Needed (replicate n 0) (replicate 64 (replicate 64 0)) []
+needed_none n =
     record {
+      wide = λ a l. lines_long 64 64 a l;
       some = λ a e l x. absurd (let z : ◌≡◌ {A = ℕ} 0 1 = sym (ap (bit e) (zeros_at n a) ∙ bit_zero e) ∙ x in omega arith);
-      only = λ a e l x. absurd (omega (arith, zeros_at m (64 * a + e)));
+      only = λ a e l x. absurd (omega (arith, lines_at 64 64 a e));
       all = λ a e k x. absurd x;
     }

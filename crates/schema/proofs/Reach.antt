@@ -6,7 +6,7 @@ use Rattle.schema.specs.declared.row.Row.{Row}
 use Rattle.schema.specs.declared.descriptions.Descriptions.{Descriptions}
 use Rattle.schema.specs.Rows.{AllSound}
 use Rattle.schema.specs.Rules.{S, D, F, P, row, Has, arrow, side}
-use Rattle.schema.specs.Points.{point, Placed, Ways, up, need, domain, below, along, Onward, Built}
+use Rattle.schema.specs.Points.{point, Placed, count, Ways, up, need, domain, below, along, Onward, Built}
 use Rattle.schema.specs.Webs.{Description, cls, mark, Link, by_S, by_F, by_D, down, by_P}
 
 pub point_below : (d : Description) → Placed d → point d < 2048
@@ -52,7 +52,7 @@ module _ (rows : List Row) (w : Descriptions) (built : Built rows w) (sound : Al
       let has = built.supers.only a t.block t.member in
       record { to = cls t.block; placed = (sound (row (S a t.block)) has).1; is = omega (arith, t.is); linked = by_S has }
   from_class_lem a j (need e t) =
-      let n = get_or w.counts (64 * a + t.end) 0 in
+      let n = count w.counts a t.end in
       let pos : 0 < n = built.needs.some a t.end t.small t.member in
       let has : Has rows (F a t.end n) = built.needs.only a t.end t.small pos in
       let r = sound (row (F a t.end n)) has in
@@ -145,7 +145,7 @@ module _ (rows : List Row) (w : Descriptions) (built : Built rows w) (sound : Al
       leads_one (step_from_class a (32 * b) k (omega (arith, r.1)) (up refl (record { block = b; member = built.supers.all a b h; is = omega arith })))
   link_way (by_F {a} {e} {n} h) k =
       let r = sound (row (F a e n)) h in
-      let m = get_or w.counts (64 * a + e) 0 in
+      let m = count w.counts a e in
       let q = built.needs.all a e n h in
       let small : e < 64 = omega (arith, r.1) in
       let high = sound (row (F a e m)) (built.needs.only a e small (omega (arith, r.2, q.1))) in

@@ -11,7 +11,7 @@ use Rattle.schema.specs.declared.keys.Reach.{Reach}
 use Rattle.schema.specs.Points.{Built}
 use Rattle.schema.specs.Masks.{Member, Gathers, Meet}
 use Rattle.schema.specs.Verdicts.{Bit, Tells}
-use Rattle.schema.specs.Points.{point, Placed}
+use Rattle.schema.specs.Points.{point, Placed, count}
 use Rattle.schema.specs.Rows.{◌∈◌}
 use Rattle.schema.specs.Webs.{Description, cls, mark, Link, Apart, ArrowLink, ArrowApart, Clashing, Empty, desc}
 
@@ -56,7 +56,7 @@ pub record TornBy (points : Row → Option (ℕ × ℕ)) (rows : List Row) (firs
 -- the classes that cannot share a thing with the class of an X row, or of a K row, by what the rows need
 pub data Rival (w : Descriptions) (r : Row) (b : ℕ) : Type 0 where
   apart : r.letter ≡ 88 → b ≡ r.b → Rival w r b
-  needs_more : r.letter ≡ 75 → r.n < slice_index w.counts (64 * b + r.b) → Rival w r b
+  needs_more : r.letter ≡ 75 → r.n < count w.counts b r.b → Rival w r b
 
 -- the rivals of each class, by the rows
 pub record RivalSets (w : Descriptions) (rows : List Row) (sets : List ℕ) : Type 0 where

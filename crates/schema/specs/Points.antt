@@ -1,5 +1,5 @@
 -- The links that the code follows between the 2,048 points. For inner contracts: no call's promise rests on it.
-use Rattle.std.specs.Prelude.{◌≡◌, ℕ, ◌+◌, ◌*◌, ◌/◌, ◌%◌, ◌<◌, ◌≤◌, List, slice_index}
+use Rattle.std.specs.Prelude.{◌≡◌, ℕ, ◌+◌, ◌*◌, ◌/◌, ◌%◌, ◌<◌, ◌≤◌, List, [], length, slice_index, slice_index_or}
 use Rattle.schema.specs.declared.descriptions.Descriptions.{Descriptions}
 use Rattle.schema.specs.declared.row.Row.{Row}
 use Rattle.schema.specs.Masks.{Member, Strided}
@@ -16,12 +16,16 @@ abbrev pub Placed : Description → Type 0
 Placed (cls a) = a < 64
 Placed (mark e m) = (e < 64) × (1 ≤ m) × (m ≤ 31)
 
+-- how often class a needs the end e, at most
+abbrev pub count : List (List ℕ) → ℕ → ℕ → ℕ
+count counts a e = slice_index (slice_index_or counts a []) e
+
 -- j is the mark that class a needs at an end of the set
-pub record ToNeeds (set : ℕ) (counts : List ℕ) (a j : ℕ) : Type 0 where
+pub record ToNeeds (set : ℕ) (counts : List (List ℕ)) (a j : ℕ) : Type 0 where
   pub end : ℕ
   pub small : end < 64
   pub member : Member set end
-  pub is : j ≡ 32 * end + slice_index counts (64 * a + end) % 32
+  pub is : j ≡ 32 * end + count counts a end % 32
 
 -- a link from class x, where m is 0, or else from mark (x, m)
 pub data Ways (w : Descriptions) (x m j : ℕ) : Type 0 where
@@ -44,10 +48,11 @@ pub record Told (letter : ℕ) (sets : List ℕ) (rows : List Row) : Type 0 wher
   pub all : (a b : ℕ) → plain letter a b ∈ rows → Member (slice_index sets a) b
 
 -- the sets say at which ends a class needs something, and the counts how much at most
-pub record Needed (sets counts : List ℕ) (rows : List Row) : Type 0 where
-  pub some : (a e : ℕ) → e < 64 → Member (slice_index sets a) e → 0 < slice_index counts (64 * a + e)
-  pub only : (a e : ℕ) → e < 64 → 0 < slice_index counts (64 * a + e) → record { letter = 70; a = a; b = e; n = slice_index counts (64 * a + e) } ∈ rows
-  pub all : (a e n : ℕ) → record { letter = 70; a = a; b = e; n = n } ∈ rows → Member (slice_index sets a) e × (n ≤ slice_index counts (64 * a + e))
+pub record Needed (sets : List ℕ) (counts : List (List ℕ)) (rows : List Row) : Type 0 where
+  pub wide : (a : ℕ) → a < 64 → length (slice_index_or counts a []) ≡ 64
+  pub some : (a e : ℕ) → e < 64 → Member (slice_index sets a) e → 0 < count counts a e
+  pub only : (a e : ℕ) → e < 64 → 0 < count counts a e → record { letter = 70; a = a; b = e; n = count counts a e } ∈ rows
+  pub all : (a e n : ℕ) → record { letter = 70; a = a; b = e; n = n } ∈ rows → Member (slice_index sets a) e × (n ≤ count counts a e)
 
 -- the web holds the links of the rows
 pub record Built (rows : List Row) (w : Descriptions) : Type 0 where

@@ -6,7 +6,7 @@
 ghost use Rattle.std.specs.Prelude.{◌≡◌, ℕ, ◌+◌, ◌*◌, ◌/◌, ◌%◌, ◌<◌, ◌≤◌, length, slice_index};
 ghost use Rattle.search.specs.Leads.{NextLink};
 ghost use Rattle.schema.specs.Masks.{Lower};
-ghost use Rattle.schema.specs.Points.{ToNeeds, Ways, Onward};
+ghost use Rattle.schema.specs.Points.{count, ToNeeds, Ways, Onward};
 ghost use Rattle.std.proofs.Common.{rules};
 
 use crate::set64::Set64;
@@ -22,8 +22,8 @@ pub(crate) struct Descriptions {
     pub(crate) supers: [Set64; 64],
     // of a class: the ends that it needs
     pub(crate) needs: [Set64; 64],
-    // at 64·a + e: how often class a needs the end e, at most
-    pub(crate) counts: [u16; 4096],
+    // of a class and an end: how often the class needs the end, at most
+    pub(crate) counts: [[u16; 64]; 64],
     // of an end: the classes that what has it lies in
     pub(crate) domains: [Set64; 64],
     // of an arrow: the arrows that it lies in
@@ -102,9 +102,9 @@ impl Descriptions {
     fn need_at(&self, class: usize, end: usize) -> usize
         requires place { class < 64 }
         requires known { end < 64 }
-        ensures { result ≡ 32 * end + slice_index self.now.counts (64 * class + end) % 32 }
+        ensures { result ≡ 32 * end + count self.now.counts class end % 32 }
     {
-        32 * end + usize::from(self.counts[64 * class + end]) % 32
+        32 * end + usize::from(self.counts[class][end]) % 32
     }
 }
 

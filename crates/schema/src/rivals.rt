@@ -1,6 +1,7 @@
 //! The classes that clash with each class, by an X or a K row.
-ghost use Rattle.std.specs.Prelude.{◌≡◌, ℕ, ◌+◌, ◌*◌, ◌<◌, ◌≤◌, slice_index};
+ghost use Rattle.std.specs.Prelude.{ℕ, ◌<◌};
 ghost use Rattle.schema.specs.Masks.{Gathers};
+ghost use Rattle.schema.specs.Points.{count};
 ghost use Rattle.schema.specs.Rows.{AllSound};
 ghost use Rattle.schema.specs.Keys.{RivalSets, TornSets};
 ghost use Rattle.schema.specs.Verdicts.{Tells};
@@ -30,11 +31,11 @@ pub(crate) fn list_rivals(rows: &[Row], links: &Descriptions) -> [Set64; 64]
 
 fn needing_more(links: &Descriptions, end: usize, cap: u16) -> Set64
     requires { end < 64 }
-    ensures { Gathers (λ a. cap < slice_index links.now.counts (64 * a + end)) 64 result }
+    ensures { Gathers (λ a. cap < count links.now.counts a end) 64 result }
 {
     let mut found = Set64::EMPTY;
-    for class in 0..64 {
-        if links.counts[64 * class + end] > cap {
+    for (class, counts) in links.counts.iter().enumerate() {
+        if counts[end] > cap {
             found.insert(class);
         }
     }

@@ -17,7 +17,7 @@ impl Descriptions {
         let mut web = Descriptions {
             supers: [Set64::EMPTY; 64],
             needs: [Set64::EMPTY; 64],
-            counts: [0; 4096],
+            counts: [[0; 64]; 64],
             domains: [Set64::EMPTY; 64],
             overs: [Set64::EMPTY; 32],
         };
@@ -50,10 +50,9 @@ impl Descriptions {
     {
         let class = usize::from(row.a);
         let end = usize::from(row.b);
-        let place = 64 * class + end;
         self.needs[class].insert(end);
-        if self.counts[place] < row.n {
-            self.counts[place] = row.n;
+        if self.counts[class][end] < row.n {
+            self.counts[class][end] = row.n;
         }
     }
 }

@@ -3,6 +3,7 @@ use Rattle.std.proofs.lemmas.List.{get_or_default, take_more, take_all}
 use Rattle.schema.specs.declared.descriptions.Descriptions.{Descriptions}
 use Rattle.schema.specs.declared.row.Row.{Row}
 use Rattle.schema.specs.Masks.{Member, Unites, Gathers}
+use Rattle.schema.specs.Points.{count}
 use Rattle.schema.specs.Keys.{Rival, apart, needs_more, RivalSets}
 use Rattle.schema.proofs.Building.{fits_at, joins_at}
 use Rattle.schema.proofs.Members.{∈_at}
@@ -19,7 +20,7 @@ only_x : (w : Descriptions) (r : Row) (b : ℕ) → r.letter ≡ 88 → Rival w 
 only_x w r b x (apart e q) = q
 only_x w r b x (needs_more e q) = absurd (omega arith)
 
-only_k : (w : Descriptions) (r : Row) (b : ℕ) → r.letter ≡ 75 → Rival w r b → r.n < get_or w.counts (64 * b + r.b) 0
+only_k : (w : Descriptions) (r : Row) (b : ℕ) → r.letter ≡ 75 → Rival w r b → r.n < count w.counts b r.b
 only_k w r b x (apart e q) = absurd (omega arith)
 only_k w r b x (needs_more e q) = q
 
@@ -27,8 +28,8 @@ only_k w r b x (needs_more e q) = q
 unites_at : (sets : List ℕ) (a x d n v : ℕ) → a ≡ x → x < length sets → Unites (get_or sets a d) n v → Unites (get_or sets x 0) n v
 unites_at sets a x d n v p w u = subst (λ (m : ℕ). Unites m n v) (ap (λ (i : ℕ). get_or sets i d) p ∙ get_or_default sets x d 0 w) u
 
-needing_at : (w : Descriptions) (e x cap set : ℕ) → e ≡ x → Gathers (λ a. cap < get_or w.counts (64 * a + e) 0) 64 set → Gathers (λ a. cap < get_or w.counts (64 * a + x) 0) 64 set
-needing_at w e x cap set p g = subst (λ (i : ℕ). Gathers (λ a. cap < get_or w.counts (64 * a + i) 0) 64 set) p g
+needing_at : (w : Descriptions) (e x cap set : ℕ) → e ≡ x → Gathers (λ a. cap < count w.counts a e) 64 set → Gathers (λ a. cap < count w.counts a x) 64 set
+needing_at w e x cap set p g = subst (λ (i : ℕ). Gathers (λ a. cap < count w.counts a i) 64 set) p g
 
 -- each row that has rivals is between classes, or between a class and an end
 pub bounds-rivals-a : goal.bounds-rivals-a

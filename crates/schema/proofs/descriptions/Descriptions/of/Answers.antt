@@ -7,7 +7,7 @@ use Rattle.schema.proofs.Members.{∈_at}
 use Rattle.schema.proofs.descriptions.Descriptions.of.Goals as goal
 
 pub loop-row-init : goal.loop-row-init
-loop-row-init c = record { supers = told_none 83 64; domains = told_none 68 64; overs = told_none 80 32; needs = needed_none 64 4096 }
+loop-row-init c = record { supers = told_none 83 64; domains = told_none 68 64; overs = told_none 80 32; needs = needed_none 64 }
 
 pub loop-row-preserved : goal.loop-row-preserved
 loop-row-preserved c =
