@@ -1,5 +1,5 @@
 -- The web that the code follows leads where the web of the rows leads.
-use Rattle.std.proofs.Common.{◌≡◌, ℕ, zero, suc, ◌+◌, ◌-◌, ◌*◌, ◌/◌, ◌%◌, ◌<◌, ◌≤◌, List, get_or, sym, refl, ap, subst, arith}
+use Rattle.std.proofs.Common.{◌≡◌, ℕ, zero, suc, ◌+◌, ◌-◌, ◌*◌, ◌/◌, ◌%◌, ◌<◌, ◌≤◌, List, sym, refl, ap, subst, arith}
 use Rattle.search.specs.Leads.{Leads, stay, go, Joined}
 use Rattle.search.proofs.Trails.{leads_one, leads_both}
 use Rattle.schema.specs.declared.row.Row.{Row}

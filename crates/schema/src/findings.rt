@@ -43,7 +43,7 @@ impl Findings<'_> {
     pub(crate) fn of(schema: &Schema) -> Findings<'_>
         ensures { result ≡ schema.now.rows.items }
     {
-        let web = Descriptions::of(schema.rows());
+        let web = Descriptions::of(schema);
         let overs = web.overs;
         let arrows = Arrows { overs };
         let empty = empty_keys(schema);

@@ -64,8 +64,8 @@ impl KeyLinks {
     fn of(schema: &Schema) -> KeyLinks
         ensures { KeyBuilt schema.now.rows.items result }
     {
-        let links = Descriptions::of(schema.rows());
-        let rivals = list_rivals(schema.rows(), &links);
+        let links = Descriptions::of(schema);
+        let rivals = list_rivals(schema, &links);
         let arrows = Arrows { overs: links.overs };
         let broken = torn_arrows(schema, &arrows);
         KeyLinks {

@@ -2,22 +2,20 @@
 ghost use Rattle.std.specs.Prelude.{ℕ, ◌<◌};
 ghost use Rattle.schema.specs.Masks.{Gathers};
 ghost use Rattle.schema.specs.Points.{count};
-ghost use Rattle.schema.specs.Rows.{AllSound};
 ghost use Rattle.schema.specs.Keys.{RivalSets, TornSets};
 ghost use Rattle.schema.specs.Verdicts.{Tells};
 
 use crate::descriptions::Descriptions;
-use crate::row::Row;
+use crate::schema::Schema;
 use crate::set64::Set64;
 
 /// Lists for each class those whose members cannot be in it: one by an X row, and by a K row all that need more than
 /// the cap.
-pub(crate) fn list_rivals(rows: &[Row], links: &Descriptions) -> [Set64; 64]
-    requires { AllSound 64 32 rows.now }
-    ensures { RivalSets links.now rows.now result }
+pub(crate) fn list_rivals(schema: &Schema, links: &Descriptions) -> [Set64; 64]
+    ensures { RivalSets links.now schema.now.rows.items result }
 {
     let mut rivals = [Set64::EMPTY; 64];
-    for row in rows {
+    for row in schema.rows() {
         let a = usize::from(row.a);
         let b = usize::from(row.b);
         match row.letter {

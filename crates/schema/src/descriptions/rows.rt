@@ -1,18 +1,18 @@
-//! The web of descriptions of a list of rows.
+//! The web of descriptions of a schema.
 ghost use Rattle.std.specs.Prelude.{◌≡◌, ℕ, ◌<◌, ◌≤◌, List, [], ◌∷◌, ◌++◌};
 ghost use Rattle.schema.specs.declared.row.Row.{Row as RowMeaning};
-ghost use Rattle.schema.specs.Rows.{Sound, AllSound};
+ghost use Rattle.schema.specs.Rows.{Sound};
 ghost use Rattle.schema.specs.Points.{Built};
 
 use super::Descriptions;
 use crate::row::Row;
+use crate::schema::Schema;
 use crate::set64::Set64;
 
 impl Descriptions {
-    /// The web of rows that are sound for some counts up to the limits.
-    pub(crate) fn of(rows: &[Row]) -> Descriptions
-        requires { AllSound 64 32 rows.now }
-        ensures { Built rows.now result }
+    /// The web of a schema.
+    pub(crate) fn of(schema: &Schema) -> Descriptions
+        ensures { Built schema.now.rows.items result }
     {
         let mut web = Descriptions {
             supers: [Set64::EMPTY; 64],
@@ -21,7 +21,7 @@ impl Descriptions {
             domains: [Set64::EMPTY; 64],
             overs: [Set64::EMPTY; 32],
         };
-        for row in rows {
+        for row in schema.rows() {
             web.learn(*row);
         }
         web

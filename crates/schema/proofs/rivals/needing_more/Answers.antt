@@ -1,4 +1,4 @@
-use Rattle.std.proofs.Common.{◌≡◌, ℕ, ◌+◌, ◌*◌, ◌<◌, get_or, sym, subst, arith}
+use Rattle.std.proofs.Common.{◌≡◌, ℕ, ◌+◌, ◌<◌, sym, subst, arith}
 use Rattle.schema.specs.Masks.{Gathers}
 use Rattle.schema.specs.Points.{count}
 use Rattle.schema.proofs.Gather.{gathers_none, gathers_more, gathers_past}

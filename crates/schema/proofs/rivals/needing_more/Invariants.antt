@@ -1,4 +1,4 @@
-use Rattle.std.proofs.Common.{◌+◌, ◌*◌, ◌<◌, get_or}
+use Rattle.std.proofs.Common.{◌<◌}
 use Rattle.schema.specs.Masks.{Gathers}
 use Rattle.schema.specs.Points.{count}
 use Rattle.schema.proofs.rivals.needing_more.Given as goal

@@ -1,4 +1,4 @@
-use Rattle.std.proofs.Common.{◌≡◌, ℕ, ◌<◌, List, [], ◌∷◌, ◌++◌, length, get_or, set, sym, ap, ◌∙◌, subst, arith, rules}
+use Rattle.std.proofs.Common.{◌≡◌, ℕ, ◌<◌, List, [], ◌∷◌, ◌++◌, length, get_or, set, sym, ap, ◌∙◌, subst, arith}
 use Rattle.schema.specs.Points.{count, Needed}
 use Rattle.schema.proofs.Building.{fits_at, joins_at, told_other, needed_lower, needed_higher}
 use Rattle.schema.proofs.descriptions.Descriptions.learn_need.Goals as goal
