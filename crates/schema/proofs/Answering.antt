@@ -17,7 +17,7 @@ use Rattle.schema.specs.Found.{TellsYes}
 use Rattle.schema.proofs.theory.Caps.{alone?}
 use Rattle.schema.proofs.theory.Deciding.{stable}
 use Rattle.schema.proofs.theory.Exactness.{all_told, all_shown}
-use Rattle.schema.proofs.Signs.{tells_same}
+use Rattle.schema.proofs.Signs.{tells_same, tells_no}
 
 -- a rule that is not refused can be counted
 pub countable : (rows : List Row) (ρ : Rule) → (Uncountable rows (row ρ) → ⊥) → Countable rows ρ
@@ -34,11 +34,6 @@ module _ (c p : ℕ) (rows : List Row) (ok : Passes c p rows) where
   everywhere : (ρ : Rule) → Sound c p (row ρ) → Countable rows ρ → (b : Bool) → Tells b (Yes rows ρ) → Tells b (Follows rows (λ w. Fulfils w ρ))
   everywhere ρ s n b t = let e = (all_told c p rows ok).rule_exact ρ s n in tells_same b e.0 e.1 t
 
-  -- what is answered no is not told
-  untold : (b : Bool) {A : Type 0} → Tells b A → b ≡ false → A → ⊥
-  untold true t e = absurd (true≢false e)
-  untold false t e = t
-
   -- the answer to a sound row that can be counted
   pub answered : (asked : Row) → Sound c p asked → (Uncountable rows asked → ⊥) → (b : Bool) → TellsYes rows asked b → Answered c p rows asked b
   answered asked sound counts b t =
@@ -54,15 +49,8 @@ module _ (c p : ℕ) (rows : List Row) (ok : Passes c p rows) where
         countable = n;
         told = t.told;
         everywhere = everywhere ρ s n b t.told;
-        one_world = (one.0, one.1, λ e. one.1.rule_broken ρ s n (untold b t.told e));
+        one_world = (one.0, one.1, λ e. one.1.rule_broken ρ s n (tells_no t.told e));
       }
-
--- what is answered of the counts and rows of a sheet is answered of the sheet
-pub asked_of : (s : Shown) (c p : ℕ) (rows : List Row) (asked : Row) (r : Result Bool QuestionFault) → c ≡ s.classes → p ≡ s.arrows → rows ≡ s.rows
-    → Replied c p rows asked r → Asked s asked r
-asked_of s c p rows asked r x y z h =
-    subst (λ (rs : List Row). Replied s.classes s.arrows rs asked r) z
-    (subst (λ (i : ℕ). Replied s.classes i rows asked r) y (subst (λ (i : ℕ). Replied i p rows asked r) x h))
 
 -- the ends of an arrow have points
 pub tail_placed : (p : ℕ) → p < 32 → Placed (mark (2 * p) 1)

@@ -36,12 +36,6 @@ module _ {A : Type 0} where
   ∈_at (x ∷ xs) zero d h = inl refl
   ∈_at (x ∷ xs) (suc i) d h = inr (∈_at xs i d (le_of_suc-le-suc h))
 
-  -- what is one of the list stands at a place
-  pub at_∈ : (x : A) (xs : List A) → x ∈ xs → (i : ℕ) × (slice_get xs i ≡ Some x)
-  at_∈ x [] h = absurd h
-  at_∈ x (y ∷ xs) (inl e) = (0, ap Some (sym e))
-  at_∈ x (y ∷ xs) (inr h) = let r = at_∈ x xs h in (suc r.0, r.1)
-
   -- what stands at a place, if anything does, is one of the list
   pub nth_∈ : (x : A) (xs : List A) (i : ℕ) → slice_get xs i ≡ Some x → x ∈ xs
   nth_∈ x [] i e = absurd (let z : ◌≡◌ {A = ℕ} 0 1 = cc in omega arith)
@@ -68,18 +62,8 @@ module _ {A : Type 0} where
       let s : get_or src k x ≡ x = cc in
       take_more src k x l ∙ ap (λ (y : A). take k src ++ y ∷ []) s
 
-  -- one more row is copied
-  pub copied_more : (src buf : List A) (k : ℕ) (x : A) → k < length buf → Some x ≡ slice_get src k → k < length src → take k buf ≡ take k src → take (k + 1) (set buf k x) ≡ take (k + 1) src
-  copied_more src buf k x h e l t = take_more_set buf k x h ∙ ap (λ (xs : List A). xs ++ x ∷ []) t ∙ sym (nth_more src k x l e)
-
   -- there is a row below the number of rows
   pub not_past : (src : List A) (k : ℕ) (x : A) → k < length src → None ≡ slice_get src k → ⊥
   not_past src k x l e =
       let q : None ≡ Some (get_or src k x) = e ∙ slice_get-get_or src k x l in
       let z : ◌≡◌ {A = ℕ} 0 1 = cc in omega arith
-
-  -- one of a list stands at a place
-  pub place_of : (x : A) (xs : List A) (d : A) → x ∈ xs → (i : ℕ) × (i < length xs) × (get_or xs i d ≡ x)
-  place_of x [] d h = absurd h
-  place_of x (y ∷ xs) d (inl e) = (0, omega arith, sym e)
-  place_of x (y ∷ xs) d (inr h) = let r = place_of x xs d h in (suc r.0, omega (arith, r.1), r.2)

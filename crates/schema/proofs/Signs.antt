@@ -36,6 +36,10 @@ tells_true {b} {A} e a = subst (λ (t : Bool). Tells t A) (sym e) a
 pub tells_yes : {b : Bool} {A : Type 0} → Tells b A → b ≡ true → A
 tells_yes {A = A} t e = subst (λ (b : Bool). Tells b A) e t
 
+-- and a false one
+pub tells_no : {b : Bool} {A : Type 0} → Tells b A → b ≡ false → A → ⊥
+tells_no {A = A} t e = subst (λ (b : Bool). Tells b A) e t
+
 -- a test whose fact holds
 pub tells_holds : (b : Bool) {A : Type 0} → Tells b A → A → b ≡ true
 tells_holds true t a = refl

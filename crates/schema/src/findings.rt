@@ -70,10 +70,9 @@ impl Findings<'_> {
     {
         let first = marks_from(&self.web, one);
         let second = marks_from(&self.web, two);
-        if self.is_empty(&first) || self.is_empty(&second) {
-            return true;
-        }
-        torn::<Descriptions>(self.schema.rows(), &first, &second)
+        self.is_empty(&first)
+            || self.is_empty(&second)
+            || torn::<Descriptions>(self.schema.rows(), &first, &second)
     }
 
     /// Whether one arrow is empty or leads to another: an arrow is empty with its tail.
@@ -91,10 +90,9 @@ impl Findings<'_> {
         requires { (one < 32) × (two < 32) }
         ensures { Tells result (Yes self.now (Q one two)) }
     {
-        if self.arrows_clash(one, two) || self.parted(64 * one + 1, 64 * two + 1) {
-            return true;
-        }
-        self.parted(64 * one + 33, 64 * two + 33)
+        self.arrows_clash(one, two)
+            || self.parted(64 * one + 1, 64 * two + 1)
+            || self.parted(64 * one + 33, 64 * two + 33)
     }
 
     // Whether two arrows lead to two that clash, one from each.

@@ -1,41 +1,46 @@
-use Rattle.std.proofs.Common.{◌⊎◌, inl, inr, List, ◌∙◌, subst}
+use Rattle.std.proofs.Common.{◌⊎◌, List, sym, ◌∙◌, subst, inl, inr}
+use Rattle.std.proofs.lemmas.Bool.{true≢false}
 use Rattle.schema.specs.declared.row.Row.{Row}
 use Rattle.schema.specs.Keys.{descriptions_apart, TornBy}
-use Rattle.schema.specs.Verdicts.{Tells}
-use Rattle.schema.proofs.Finds.{found_as}
 use Rattle.schema.specs.Questions.{EmptyDescription}
+use Rattle.schema.specs.Verdicts.{Tells}
 use Rattle.schema.specs.Webs.{Link, Apart, Clashing}
+use Rattle.schema.proofs.Finds.{found_as}
 use Rattle.schema.proofs.Marks.{reaches_from}
-use Rattle.schema.proofs.Signs.{tells_same, tells_second}
+use Rattle.schema.proofs.Signs.{tells_yes, tells_no, tells_true, tells_same, tells_second}
 use Rattle.schema.proofs.Torn.{torn_clashes, clashes_torn}
 use Rattle.schema.proofs.findings.Findings.parted.Goals as goal
-use Rattle.schema.proofs.findings.Findings.parted.Goals.{then-is_empty-via-then-is_empty, then-is_empty-via-else-is_empty+then-is_empty-2}
+use Rattle.schema.proofs.findings.Findings.parted.Goals.{then-is_empty, else-is_empty}
 
-pub returns-then-is_empty : goal.returns-then-is_empty
-returns-then-is_empty c d u h k e f =
+pub returns-then-is_empty-2 : goal.returns-then-is_empty-2
+returns-then-is_empty-2 c d u h k e f =
     let it = c.self.inside in
     let rows = c.args.self.now in
     let found = found_as c.self.view_is c.self.invariant in
-    let sound = found.sound in
-    let from-d = reaches_from rows it.web found.links sound d h c.args.one e c.marks_from-first.result c.marks_from-first.ensures in
-    let from-u = reaches_from rows it.web found.links sound u k c.args.two f c.marks_from-second.result c.marks_from-second.ensures in
-    elim c.then-is_empty.branch [
-      | then-is_empty-via-then-is_empty v ↦ inl (v.if-is_empty.ensures d h from-d)
-      | then-is_empty-via-else-is_empty+then-is_empty-2 v ↦ inr (inl (v.if-is_empty-2.ensures u k from-u))
-    ]
+    let from-d = reaches_from rows it.web found.links found.sound d h c.args.one e c.marks_from-first.result c.marks_from-first.ensures in
+    let from-u = reaches_from rows it.web found.links found.sound u k c.args.two f c.marks_from-second.result c.marks_from-second.ensures in
+    tells_true c.if-is_empty-2.true
+    (elim c.if-is_empty.branch [
+      | then-is_empty w ↦ inl (w.if-is_empty.ensures d h from-d)
+      | else-is_empty w ↦ inr (inl (tells_yes (w.is_empty-else-is_empty.ensures u k from-u) (sym w.value-is ∙ c.if-is_empty-2.true)))
+    ])
 
-pub returns : goal.returns
-returns c d u h k e f =
+pub returns-else-is_empty-2 : goal.returns-else-is_empty-2
+returns-else-is_empty-2 c d u h k e f =
     let it = c.self.inside in
     let rows = c.args.self.now in
     let found = found_as c.self.view_is c.self.invariant in
-    let sound = found.sound in
-    let torn = subst (λ (rs : List Row). Tells c.torn.result (TornBy descriptions_apart rs c.marks_from-first.result c.marks_from-second.result)) (c.rows.ensures.same ∙ c.self.view_is) c.torn.ensures in
     let first = c.marks_from-first.result in
     let second = c.marks_from-second.result in
-    let from-d = reaches_from rows it.web found.links sound d h c.args.one e first c.marks_from-first.ensures in
-    let from-u = reaches_from rows it.web found.links sound u k c.args.two f second c.marks_from-second.ensures in
+    let from-d = reaches_from rows it.web found.links found.sound d h c.args.one e first c.marks_from-first.ensures in
+    let from-u = reaches_from rows it.web found.links found.sound u k c.args.two f second c.marks_from-second.ensures in
+    let torn = subst (λ (rs : List Row). Tells c.torn.result (TornBy descriptions_apart rs first second)) (c.rows.ensures.same ∙ c.self.view_is) c.torn.ensures in
+    let filled : (EmptyDescription rows d → ⊥) × (EmptyDescription rows u → ⊥) =
+        elim c.if-is_empty.branch [
+          | then-is_empty w ↦ absurd (true≢false (sym w.if-is_empty.true ∙ sym w.value-is ∙ c.if-is_empty-2.false))
+          | else-is_empty w ↦ (w.if-is_empty.ensures d h from-d, tells_no (w.is_empty-else-is_empty.ensures u k from-u) (sym w.value-is ∙ c.if-is_empty-2.false))
+        ] in
     let Clash = Clashing (Link rows) (Apart rows) d u in
-    tells_second c.torn.result (EmptyDescription rows u ⊎ Clash) (c.if-is_empty.ensures d h from-d)
-    (tells_second c.torn.result Clash (c.if-is_empty-2.ensures u k from-u)
-    (tells_same c.torn.result (torn_clashes rows sound d u first second from-d from-u) (clashes_torn rows sound d u first second from-d from-u) torn))
+    tells_second c.torn.result (EmptyDescription rows u ⊎ Clash) filled.0
+    (tells_second c.torn.result Clash filled.1
+    (tells_same c.torn.result (torn_clashes rows found.sound d u first second from-d from-u) (clashes_torn rows found.sound d u first second from-d from-u) torn))
