@@ -24,7 +24,7 @@ impl Set64 {
     /// The set with no member.
     pub(crate) const EMPTY: Set64 = Set64 { bits: 0 };
 
-    /// Adds a member.
+    /// Adds a member. Loops gather sets by it: to collect one would take a FromIterator with the loops' proof in it.
     pub(crate) fn insert(&mut self, k: usize)
         requires { k < 64 }
         ensures { Joins self.old k self.new }
@@ -55,6 +55,7 @@ impl Set64 {
             return None;
         }
         let rest = self.bits >> from;
+        // as, since a usize has no From<u32>
         let found = from + rest.trailing_zeros() as usize;
         if found < 64 { Some(found) } else { None }
     }
