@@ -10,6 +10,10 @@ use std::test::Fail;
 
 const GOOD: &[u8; 42] = b"H   4   2   2\nS   0   1   0\nF   3   3  30\n";
 
+fn row(letter: u8, a: u16, b: u16, n: u16) -> Row {
+    Row { letter, a, b, n }
+}
+
 // Where a text is out of form.
 fn form(line: u16, column: u16) -> Result<(), TextFault> {
     Err(TextFault::Line(LineFault::Form(ColumnFault { line, column })))
@@ -57,24 +61,8 @@ fn cuts(rt: HostRuntime) {
 #[test]
 fn sheets(rt: HostRuntime) {
     let sheet = TextSheet::new(GOOD);
-    assert_eq!(rt;
-        sheet.row(0),
-        Some(Row {
-            letter: b'S',
-            a: 0,
-            b: 1,
-            n: 0,
-        })
-    );
-    assert_eq!(rt;
-        sheet.row(1),
-        Some(Row {
-            letter: b'F',
-            a: 3,
-            b: 3,
-            n: 30,
-        })
-    );
+    assert_eq!(rt; sheet.row(0), Some(row(b'S', 0, 1, 0)));
+    assert_eq!(rt; sheet.row(1), Some(row(b'F', 3, 3, 30)));
     assert_eq!(rt; sheet.row(2), None);
     assert_eq!(rt; sheet.capacity(), 2);
     let empty = TextSheet::new(b"H");
@@ -84,58 +72,10 @@ fn sheets(rt: HostRuntime) {
 
 #[test]
 fn fields(rt: HostRuntime) {
-    assert_eq!(rt;
-        unsound_field(
-            Row {
-                letter: b'F',
-                a: 0,
-                b: 0,
-                n: 30,
-            },
-            4,
-            2,
-        ),
-        None
-    );
-    assert_eq!(rt;
-        unsound_field(
-            Row {
-                letter: b'F',
-                a: 0,
-                b: 0,
-                n: 31,
-            },
-            4,
-            2,
-        ),
-        Some(4)
-    );
-    assert_eq!(rt;
-        unsound_field(
-            Row {
-                letter: b'F',
-                a: 0,
-                b: 0,
-                n: 0,
-            },
-            4,
-            2,
-        ),
-        Some(4)
-    );
-    assert_eq!(rt;
-        unsound_field(
-            Row {
-                letter: b'F',
-                a: 0,
-                b: 4,
-                n: 1,
-            },
-            4,
-            2,
-        ),
-        Some(3)
-    );
+    assert_eq!(rt; unsound_field(row(b'F', 0, 0, 30), 4, 2), None);
+    assert_eq!(rt; unsound_field(row(b'F', 0, 0, 31), 4, 2), Some(4));
+    assert_eq!(rt; unsound_field(row(b'F', 0, 0, 0), 4, 2), Some(4));
+    assert_eq!(rt; unsound_field(row(b'F', 0, 4, 1), 4, 2), Some(3));
 }
 
 #[test]
