@@ -37,9 +37,9 @@ until_from text c p n i rows h l e read = record {
 }
 
 -- a fault of a row's line is one of the text
-pub faulty_from : (text l : List ℕ) (c p n i : ℕ) (f : LineFault) → Until text c p n i → l ≡ line_at text (i + 1) → LineFaulty l (i + 2) c p f → TextFaulty text (Line f)
-faulty_from text l c p n i f u e (out_of_form k bad) = row_form c p n i k u (rw e at bad)
-faulty_from text l c p n i f u e (unsound field r w s bad) = row_unsound c p n i field r u w (sym e ∙ s) bad
+pub faulty_from : (text l : List ℕ) (c p n i number : ℕ) (f : LineFault) → number ≡ i + 2 → Until text c p n i → l ≡ line_at text (i + 1) → LineFaulty l number c p f → TextFaulty text (Line f)
+faulty_from text l c p n i number f second u e (out_of_form k bad) = rw second (row_form c p n i k u (rw e at bad))
+faulty_from text l c p n i number f second u e (unsound field r w s bad) = rw second (row_unsound c p n i field r u w (sym e ∙ s) bad)
 
 -- one more row
 pub rows_more : (text : List ℕ) (c p : ℕ) (rows : List Row) (i : ℕ) (r : Row) → length rows ≡ i → RowsRead text c p rows

@@ -6,6 +6,8 @@ ghost use Rattle.schema.specs.Reports.{name_lines};
 
 use crate::limits::LINE_BYTES;
 
+// The place goes beside the bytes: a writer would borrow them, and each contract would have to tell what it gives back.
+
 /// Writes a line from `at` on.
 pub(crate) fn put_line(bytes: &mut [u8], at: usize, letter: u8, a: u16, b: u16, n: u16)
     requires { (a ≤ 9999) × ((b ≤ 9999) × ((n ≤ 9999) × (at + 14 ≤ length bytes.old))) }

@@ -62,14 +62,9 @@ fn list(bytes: &mut [u8], classes: &[u8], arrows: &[u8]) -> usize
     requires { (length classes.now ≤ 64) × ((length arrows.now ≤ 32) × (1358 ≤ length bytes.old)) }
     ensures { Begun (listing (ones_from 0 classes.now) (ones_from 0 arrows.now)) bytes.old result bytes.new }
 {
-    put_line(
-        bytes,
-        0,
-        b'V',
-        count_ones(classes) as u16,
-        count_ones(arrows) as u16,
-        0,
-    );
+    let class_count = count_ones(classes) as u16;
+    let arrow_count = count_ones(arrows) as u16;
+    put_line(bytes, 0, b'V', class_count, arrow_count, 0);
     let end = put_names(bytes, LINE_BYTES, b'C', classes);
     put_names(bytes, end, b'A', arrows)
 }

@@ -1,14 +1,26 @@
 //! Texts at their limits, and rows at theirs.
-use crate::faults::{ColumnFault, LineFault, TextFault};
+use crate::faults::{
+    CheckFault, ColumnFault, LineFault, LoadFault, SheetFault, TextFault, VerdictFault,
+};
 use crate::letters::unsound_field;
 use crate::report::{REPORT_BYTES, report};
 use crate::row::Row;
 use crate::sheet::Sheet;
 use crate::text::check_text;
 use crate::text_sheet::TextSheet;
+use std::error::Error;
+use std::fmt::InlineText;
 use std::test::Fail;
 
 const GOOD: &[u8; 42] = b"H   4   2   2\nS   0   1   0\nF   3   3  30\n";
+
+fn row(letter: u8, a: u16, b: u16, n: u16) -> Row {
+    Row { letter, a, b, n }
+}
+
+fn words<E: Error>(fault: E) -> InlineText<64> {
+    InlineText::of(fault)
+}
 
 // Where a text is out of form.
 fn form(line: u16, column: u16) -> Result<(), TextFault> {
@@ -57,24 +69,8 @@ fn cuts(rt: HostRuntime) {
 #[test]
 fn sheets(rt: HostRuntime) {
     let sheet = TextSheet::new(GOOD);
-    assert_eq!(rt;
-        sheet.row(0),
-        Some(Row {
-            letter: b'S',
-            a: 0,
-            b: 1,
-            n: 0,
-        })
-    );
-    assert_eq!(rt;
-        sheet.row(1),
-        Some(Row {
-            letter: b'F',
-            a: 3,
-            b: 3,
-            n: 30,
-        })
-    );
+    assert_eq!(rt; sheet.row(0), Some(row(b'S', 0, 1, 0)));
+    assert_eq!(rt; sheet.row(1), Some(row(b'F', 3, 3, 30)));
     assert_eq!(rt; sheet.row(2), None);
     assert_eq!(rt; sheet.capacity(), 2);
     let empty = TextSheet::new(b"H");
@@ -84,58 +80,10 @@ fn sheets(rt: HostRuntime) {
 
 #[test]
 fn fields(rt: HostRuntime) {
-    assert_eq!(rt;
-        unsound_field(
-            Row {
-                letter: b'F',
-                a: 0,
-                b: 0,
-                n: 30,
-            },
-            4,
-            2,
-        ),
-        None
-    );
-    assert_eq!(rt;
-        unsound_field(
-            Row {
-                letter: b'F',
-                a: 0,
-                b: 0,
-                n: 31,
-            },
-            4,
-            2,
-        ),
-        Some(4)
-    );
-    assert_eq!(rt;
-        unsound_field(
-            Row {
-                letter: b'F',
-                a: 0,
-                b: 0,
-                n: 0,
-            },
-            4,
-            2,
-        ),
-        Some(4)
-    );
-    assert_eq!(rt;
-        unsound_field(
-            Row {
-                letter: b'F',
-                a: 0,
-                b: 4,
-                n: 1,
-            },
-            4,
-            2,
-        ),
-        Some(3)
-    );
+    assert_eq!(rt; unsound_field(row(b'F', 0, 0, 30), 4, 2), None);
+    assert_eq!(rt; unsound_field(row(b'F', 0, 0, 31), 4, 2), Some(4));
+    assert_eq!(rt; unsound_field(row(b'F', 0, 0, 0), 4, 2), Some(4));
+    assert_eq!(rt; unsound_field(row(b'F', 0, 4, 1), 4, 2), Some(3));
 }
 
 #[test]
@@ -159,4 +107,21 @@ fn report_of_an_example(rt: HostRuntime) {
     assert_eq!(rt; report(text, &mut bytes), Ok(56));
     assert!(rt; &bytes[0..56] == expected);
     assert_eq!(rt; bytes[56], 7);
+}
+
+// A fault that holds a fault passes its words on.
+#[test]
+fn words_of_faults(rt: HostRuntime) {
+    let form = TextFault::Line(LineFault::Form(ColumnFault {
+        line: 2,
+        column: 13,
+    }));
+    let form = words(LoadFault::Text(form));
+    assert_eq!(rt; form.as_str(), "line 2, column 13 is out of form");
+    let unsound = SheetFault::UnsoundRow { row: 4, field: 3 };
+    let unsound = words(VerdictFault::Check(CheckFault::Sheet(unsound)));
+    assert_eq!(rt; unsound.as_str(), "row 4, field 3 is unsound");
+    let large = words(TextFault::TooLarge);
+    let limits = "the text has more than 64 classes, 32 arrows or 512 rows";
+    assert_eq!(rt; large.as_str(), limits);
 }

@@ -15,5 +15,5 @@ returns c =
     let arrows = ones_from 0 c.args.arrows.now in
     list_begun classes arrows c.args.bytes.now _ _ _ _ _ _ _
     (omega (arith, ones_few 0 c.args.classes.now)) (omega (arith, ones_few 0 c.args.arrows.now)) (omega arith)
-    (c.count_ones.ensures.counted ∙ sym (ones_counted 0 c.args.classes.now)) (c.count_ones-2.ensures.counted ∙ sym (ones_counted 0 c.args.arrows.now)) c.put_line.ensures
+    (c.count_ones-class_count.ensures.counted ∙ sym (ones_counted 0 c.args.classes.now)) (c.count_ones-arrow_count.ensures.counted ∙ sym (ones_counted 0 c.args.arrows.now)) c.put_line.ensures
     c.put_names-end.ensures.written c.put_names-end.ensures.end c.put_names.ensures.written c.put_names.ensures.end

@@ -12,8 +12,8 @@ returns-in_err-row c =
     let h = c.in-Some.ensures.steps in
     let n = length c.loop-i.rows.items in
     let l = next_line text _ c.in-Some.line.now _ c.args.header.rows n c.requires.long read.2 h.0.1.0 (h.0.1.1 ∙ read.1) in
-    let number : c.in-Some.i + 2 ≡ n + 2 = omega (arith, h.1, read.0) in
-    rw (p.1, p.2) (faulty_from text _ _ _ _ n _ (until_from text _ _ _ n c.loop-i.rows.items c.requires l.0 (omega arith) read.3) l.1 (rw number at c.in_err-row.ensures))
+    let far = until_from text _ _ _ n c.loop-i.rows.items c.requires l.0 (omega arith) read.3 in
+    rw (p.1, p.2) (faulty_from text _ _ _ _ n _ _ (omega (arith, h.1, read.0)) far l.1 c.in_err-row.ensures)
 
 pub loop-i-preserved : goal.loop-i-preserved
 loop-i-preserved c =
