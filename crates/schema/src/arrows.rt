@@ -7,8 +7,8 @@ ghost use Rattle.std.proofs.Common.{rules};
 
 use crate::clashes::torn;
 use crate::marking::marks_from;
-use crate::schema::Schema;
 use crate::set64::Set64;
+use crate::sound_sheet::SoundSheet;
 use search::web::Web;
 
 /// How many arrows there are at most.
@@ -40,11 +40,11 @@ impl Web for Arrows {
 }
 
 /// The set of the arrows that lead to two that clash.
-pub(crate) fn torn_arrows(schema: &Schema, arrows: &Arrows) -> Set64
-    requires { Told 80 arrows.now.overs schema.now.rows.items }
-    ensures { Gathers (ArrowTorn schema.now.rows.items) 32 result }
+pub(crate) fn torn_arrows(sheet: &SoundSheet, arrows: &Arrows) -> Set64
+    requires { Told 80 arrows.now.overs sheet.now.rows.items }
+    ensures { Gathers (ArrowTorn sheet.now.rows.items) 32 result }
 {
-    let rows = schema.rows();
+    let rows = sheet.rows();
     let mut found = Set64::EMPTY;
     for arrow in 0..ARROWS {
         let marks: [u8; ARROWS] = marks_from(arrows, arrow);

@@ -30,8 +30,8 @@ pub(crate) fn check_sound(rows: &[Row], classes: u16, arrows: u16) -> Result<(),
 pub(crate) fn check_caps(sheet: &SoundSheet) -> Result<(), CheckFault>
     ensures { MatchResult result (λ _. NoSharedCap sheet.now.rows.items) (λ f. CheckFaulty sheet.now.classes sheet.now.arrows sheet.now.rows.items f) }
 {
-    let rows = sheet.rows.as_slice();
-    let shared = shared_arrows(rows);
+    let shared = shared_arrows(sheet);
+    let rows = sheet.rows();
     for (k, row) in rows.iter().enumerate() {
         if row.letter == b'K' && shared.has(usize::from(row.b) / 2) {
             return Err(CheckFault::Capped { row: k as u16 });
@@ -42,12 +42,11 @@ pub(crate) fn check_caps(sheet: &SoundSheet) -> Result<(), CheckFault>
 
 /// The set of the arrows that another arrow leads to. The last link of a way from elsewhere is a row of its own, so
 /// the rows that lead straight to an arrow tell.
-pub(crate) fn shared_arrows(rows: &[Row]) -> Set64
-    requires { AllSound 64 32 rows.now }
-    ensures { Shared rows.now result }
+pub(crate) fn shared_arrows(sheet: &SoundSheet) -> Set64
+    ensures { Shared sheet.now.rows.items result }
 {
     let mut shared = Set64::EMPTY;
-    for row in rows {
+    for row in sheet.rows() {
         if row.letter == b'P' && row.a != row.b {
             shared.insert(usize::from(row.b));
         }

@@ -33,17 +33,17 @@ impl<'a> Model for Findings<'a> {
 
     ghost Value = { List Row };
 
-    ghost view = { λ f. f.schema.now.rows.items };
+    ghost view = { λ f. f.schema.now.sheet.rows.items };
 
-    ghost invariant = { λ f. Found f.schema.now.rows.items f.web f.arrows f.empty };
+    ghost invariant = { λ f. Found f.schema.now.sheet.rows.items f.web f.arrows f.empty };
 }
 
 impl Findings<'_> {
     /// What a schema tells.
     pub(crate) fn of(schema: &Schema) -> Findings<'_>
-        ensures { result ≡ schema.now.rows.items }
+        ensures { result ≡ schema.now.sheet.rows.items }
     {
-        let web = Descriptions::of(schema);
+        let web = Descriptions::of(&schema.sheet);
         let overs = web.overs;
         let arrows = Arrows { overs };
         let empty = empty_keys(schema);
@@ -72,7 +72,7 @@ impl Findings<'_> {
         let second = marks_from(&self.web, two);
         self.is_empty(&first)
             || self.is_empty(&second)
-            || torn::<Descriptions>(self.schema.rows(), &first, &second)
+            || torn::<Descriptions>(self.schema.sheet.rows(), &first, &second)
     }
 
     /// Whether one arrow is empty or leads to another: an arrow is empty with its tail.
@@ -102,14 +102,15 @@ impl Findings<'_> {
     {
         let first: [u8; ARROWS] = marks_from(&self.arrows, one);
         let second: [u8; ARROWS] = marks_from(&self.arrows, two);
-        torn::<Arrows>(self.schema.rows(), &first, &second)
+        torn::<Arrows>(self.schema.sheet.rows(), &first, &second)
     }
 
     // Whether a description is empty, by what it leads to: two that clash, or a key that is empty.
     fn is_empty(&self, marks: &[u8; POINTS]) -> bool
         ensures { (d : Description) → Placed d → Reaches self.now d marks.now → Tells result (EmptyDescription self.now d) }
     {
-        torn::<Descriptions>(self.schema.rows(), marks, marks) || marks_empty(marks, &self.empty)
+        torn::<Descriptions>(self.schema.sheet.rows(), marks, marks)
+            || marks_empty(marks, &self.empty)
     }
 }
 

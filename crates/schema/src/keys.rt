@@ -20,6 +20,7 @@ use crate::marking::marks_from;
 use crate::rivals::{list_rivals, torn_sets};
 use crate::schema::Schema;
 use crate::set64::Set64;
+use crate::sound_sheet::SoundSheet;
 use search::web::Web;
 
 /// How many keys there are; the point of the same number leads to those that clash.
@@ -60,14 +61,14 @@ impl Web for KeyLinks {
 }
 
 impl KeyLinks {
-    // The web of the keys of a schema.
-    fn of(schema: &Schema) -> KeyLinks
-        ensures { KeyBuilt schema.now.rows.items result }
+    // The web of the keys of a sheet.
+    fn of(sheet: &SoundSheet) -> KeyLinks
+        ensures { KeyBuilt sheet.now.rows.items result }
     {
-        let links = Descriptions::of(schema);
-        let rivals = list_rivals(schema, &links);
+        let links = Descriptions::of(sheet);
+        let rivals = list_rivals(sheet, &links);
         let arrows = Arrows { overs: links.overs };
-        let broken = torn_arrows(schema, &arrows);
+        let broken = torn_arrows(sheet, &arrows);
         KeyLinks {
             links,
             rivals,
@@ -162,9 +163,9 @@ impl Web for Keys {
 impl Keys {
     /// What the keys of a schema lead to.
     fn survey(schema: &Schema) -> Keys
-        ensures { Surveyed schema.now.rows.items 128 result }
+        ensures { Surveyed schema.now.sheet.rows.items 128 result }
     {
-        let web = KeyLinks::of(schema);
+        let web = KeyLinks::of(&schema.sheet);
         let mut reaches = [Reach {
             classes: Set64::EMPTY,
             ends: Set64::EMPTY,
@@ -194,7 +195,7 @@ impl Keys {
 
 /// A byte for each key: 1 if its description is empty, and else 0.
 pub(crate) fn empty_keys(schema: &Schema) -> [u8; 129]
-    ensures { EmptyKeys schema.now.rows.items result }
+    ensures { EmptyKeys schema.now.sheet.rows.items result }
 {
     marks_from(&Keys::survey(schema), KEYS)
 }

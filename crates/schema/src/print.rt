@@ -16,7 +16,7 @@ pub fn print<S: Sheet>(sheet: &S, bytes: &mut [u8]) -> Result<usize, PrintFault>
     ensures { Printed (S.Sheet.shows sheet.now) bytes.old result bytes.new }
 {
     let copy = SoundSheet::of(sheet)?;
-    if bytes.len() < LINE_BYTES * (copy.rows.len() + 1) {
+    if bytes.len() < LINE_BYTES * (copy.rows().len() + 1) {
         return Err(PrintFault::ShortBuffer);
     }
     Ok(put_text(bytes, &copy))
@@ -47,7 +47,7 @@ fn put_text(bytes: &mut [u8], sheet: &SoundSheet) -> usize
     requires { 14 * (length sheet.now.rows.items + 1) ≤ length bytes.old }
     ensures { Begun (text_of sheet.now.classes sheet.now.arrows sheet.now.rows.items) bytes.old result bytes.new }
 {
-    let rows = sheet.rows.as_slice();
+    let rows = sheet.rows();
     put_line(
         bytes,
         0,

@@ -22,9 +22,9 @@ pub fn question<S: Sheet>(sheet: &S, asked: Row) -> Result<bool, QuestionFault>
 
 // The question about a schema.
 fn ask(schema: &Schema, asked: Row) -> Result<bool, QuestionFault>
-    ensures { Replied schema.now.classes schema.now.arrows schema.now.rows.items asked result }
+    ensures { Replied schema.now.sheet.classes schema.now.sheet.arrows schema.now.sheet.rows.items asked result }
 {
-    if let Some(field) = unsound_field(asked, schema.classes, schema.arrows) {
+    if let Some(field) = unsound_field(asked, schema.sheet.classes, schema.sheet.arrows) {
         return Err(QuestionFault::UnsoundAsked { field });
     }
     if uncountable(schema, asked) {
@@ -36,17 +36,17 @@ fn ask(schema: &Schema, asked: Row) -> Result<bool, QuestionFault>
 // Whether a row asks for 2 or more at an arrow that another leads to.
 fn uncountable(schema: &Schema, asked: Row) -> bool
     requires { Sound 64 32 asked }
-    ensures { Tells result (Uncountable schema.now.rows.items asked) }
+    ensures { Tells result (Uncountable schema.now.sheet.rows.items asked) }
 {
     asked.letter == b'F'
         && asked.n >= 2
-        && shared_arrows(schema.rows()).has(usize::from(asked.b) / 2)
+        && shared_arrows(&schema.sheet).has(usize::from(asked.b) / 2)
 }
 
 // Whether a schema tells what a sound row says. Class a is at point 32·a, and the mark (e, m) at 32·e + m.
 fn answer(schema: &Schema, asked: Row) -> bool
     requires { Sound 64 32 asked }
-    ensures { TellsYes schema.now.rows.items asked result }
+    ensures { TellsYes schema.now.sheet.rows.items asked result }
 {
     let found = Findings::of(schema);
     let a = usize::from(asked.a);

@@ -6,16 +6,16 @@ ghost use Rattle.schema.specs.Keys.{RivalSets, TornSets};
 ghost use Rattle.schema.specs.Verdicts.{Tells};
 
 use crate::descriptions::Descriptions;
-use crate::schema::Schema;
 use crate::set64::Set64;
+use crate::sound_sheet::SoundSheet;
 
 /// Lists for each class those whose members cannot be in it: one by an X row, and by a K row all that need more than
 /// the cap.
-pub(crate) fn list_rivals(schema: &Schema, links: &Descriptions) -> [Set64; 64]
-    ensures { RivalSets links.now schema.now.rows.items result }
+pub(crate) fn list_rivals(sheet: &SoundSheet, links: &Descriptions) -> [Set64; 64]
+    ensures { RivalSets links.now sheet.now.rows.items result }
 {
     let mut rivals = [Set64::EMPTY; 64];
-    for row in schema.rows() {
+    for row in sheet.rows() {
         let a = usize::from(row.a);
         let b = usize::from(row.b);
         match row.letter {

@@ -17,7 +17,7 @@ use arrayvec::ArrayVec;
 pub(crate) struct SoundSheet {
     pub(crate) classes: u16,
     pub(crate) arrows: u16,
-    pub(crate) rows: ArrayVec<Row, MOST_ROWS>,
+    rows: ArrayVec<Row, MOST_ROWS>,
     ghost small: { Small classes arrows rows.items },
     ghost sound: { AllSound classes arrows rows.items } by { Prim.hlevel (props, sound_prop) },
 }
@@ -39,6 +39,14 @@ impl SoundSheet {
             arrows,
             rows,
         })
+    }
+
+    /// The rows, which are sound for the limits too.
+    pub(crate) fn rows(&self) -> &[Row]
+        ensures same { result.now ≡ self.now.rows.items }
+        ensures sound { AllSound 64 32 result.now }
+    {
+        self.rows.as_slice()
     }
 }
 

@@ -19,10 +19,10 @@ pub fn verdict<S: Sheet>(sheet: &S, table: &mut [u8]) -> Result<usize, VerdictFa
 
 // The verdict on a schema.
 fn judge(schema: &Schema, table: &mut [u8]) -> Result<usize, VerdictFault>
-    ensures { Judged schema.now.classes schema.now.arrows schema.now.rows.items table.old result table.new }
+    ensures { Judged schema.now.sheet.classes schema.now.sheet.arrows schema.now.sheet.rows.items table.old result table.new }
 {
-    let classes = usize::from(schema.classes);
-    let arrows = usize::from(schema.arrows);
+    let classes = usize::from(schema.sheet.classes);
+    let arrows = usize::from(schema.sheet.arrows);
     if table.len() < classes + arrows {
         return Err(VerdictFault::ShortTable);
     }

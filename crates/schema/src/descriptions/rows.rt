@@ -1,4 +1,4 @@
-//! The web of descriptions of a schema.
+//! The web of descriptions of a sheet.
 ghost use Rattle.std.specs.Prelude.{◌≡◌, ℕ, ◌<◌, ◌≤◌, List, [], ◌∷◌, ◌++◌};
 ghost use Rattle.schema.specs.declared.row.Row.{Row as RowMeaning};
 ghost use Rattle.schema.specs.Rows.{Sound};
@@ -6,13 +6,13 @@ ghost use Rattle.schema.specs.Points.{Built};
 
 use super::Descriptions;
 use crate::row::Row;
-use crate::schema::Schema;
 use crate::set64::Set64;
+use crate::sound_sheet::SoundSheet;
 
 impl Descriptions {
-    /// The web of a schema.
-    pub(crate) fn of(schema: &Schema) -> Descriptions
-        ensures { Built schema.now.rows.items result }
+    /// The web of a sheet.
+    pub(crate) fn of(sheet: &SoundSheet) -> Descriptions
+        ensures { Built sheet.now.rows.items result }
     {
         let mut web = Descriptions {
             supers: [Set64::EMPTY; 64],
@@ -21,7 +21,7 @@ impl Descriptions {
             domains: [Set64::EMPTY; 64],
             overs: [Set64::EMPTY; 32],
         };
-        for row in schema.rows() {
+        for row in sheet.rows() {
             web.learn(*row);
         }
         web

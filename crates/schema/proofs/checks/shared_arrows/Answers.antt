@@ -15,19 +15,19 @@ loop-row-init c = shared_none
 
 pub insert-requires : goal.insert-requires
 insert-requires c =
-    let f = fits_at _ 80 c.if-row-eq80.true (c.requires _ (∈_at c.args.rows.now c.loop-row.row-index blank_row c.loop-row-test.true)) in
+    let f = fits_at _ 80 c.if-row-eq80.true (c.rows-row-items.ensures.sound _ (∈_at c.rows-row-items.result.now c.loop-row.row-index blank_row c.loop-row-test.true)) in
     omega (arith, f.1)
 
 pub loop-row-preserved : goal.loop-row-preserved
 loop-row-preserved c =
-    let rows = c.args.rows.now in
+    let rows = c.rows-row-items.result.now in
     let i = c.loop-row.row-index in
     let r = get_or rows i blank_row in
     let e = take_more rows i blank_row c.loop-row-test.true in
     subst (λ (rs : List Row). Shared rs c.if-row-eq80.shared) (sym e)
     (elim c.if-row-eq80.branch [
       | then-row-eq80+then-row v ↦
-          let f = fits_at r 80 v.if-row-eq80.true (c.requires r (∈_at rows i blank_row c.loop-row-test.true)) in
+          let f = fits_at r 80 v.if-row-eq80.true (c.rows-row-items.ensures.sound r (∈_at rows i blank_row c.loop-row-test.true)) in
           subst (Shared (take i rows ++ r ∷ [])) (sym v.shared-is)
           (shared_more (take i rows) c.loop-row.shared v.insert.new.self r v.if-row-eq80.true (omega (arith, f.3)) v.if-row.true
           (subst (λ (k : ℕ). Joins c.loop-row.shared k v.insert.new.self) (omega arith) v.insert.ensures) c.loop-row.invariant)
@@ -41,4 +41,6 @@ loop-row-preserved c =
 
 pub returns : goal.returns
 returns c =
-    subst (λ (rs : List Row). Shared rs c.loop-row.shared) (take_all c.loop-row.row-index c.args.rows.now c.loop-row-test.false) c.loop-row.invariant
+    let Whole = λ (rs : List Row). Shared rs c.loop-row.shared in
+    let rows = c.rows-row-items in
+    subst Whole rows.ensures.same (subst Whole (take_all c.loop-row.row-index rows.result.now c.loop-row-test.false) c.loop-row.invariant)

@@ -13,21 +13,21 @@ use Rattle.schema.proofs.print.put_text.Goals as goal
 pub put_line-requires-in-loop-k : goal.put_line-requires-in-loop-k
 put_line-requires-in-loop-k c =
     let sheet = c.args.sheet.now in
-    let rows = c.as_slice-rows.result.now in
+    let rows = c.rows-rows.result.now in
     let k = c.loop-k.k in
     let few = sound_few sheet.classes sheet.arrows (get_or rows k blank_row) sheet.small.few_classes sheet.small.few_arrows
-    (sheet.sound (get_or rows k blank_row) (subst (λ (rs : List Row). get_or rows k blank_row ∈ rs) c.as_slice-rows.ensures.value (∈_at rows k blank_row c.loop-k-test.true))) in
-    (omega (arith, few.a_few), (omega (arith, few.b_few), (omega (arith, few.n_few), omega (arith, c.loop-k.auto.bytes, c.requires, ap length c.as_slice-rows.ensures.value))))
+    (sheet.sound (get_or rows k blank_row) (subst (λ (rs : List Row). get_or rows k blank_row ∈ rs) c.rows-rows.ensures.same (∈_at rows k blank_row c.loop-k-test.true))) in
+    (omega (arith, few.a_few), (omega (arith, few.b_few), (omega (arith, few.n_few), omega (arith, c.loop-k.auto.bytes, c.requires, ap length c.rows-rows.ensures.same))))
 
 pub loop-k-preserved : goal.loop-k-preserved
 loop-k-preserved c =
-    lines_more 14 c.as_slice-rows.result.now c.loop-k.k _ blank_row c.put_line.new.bytes _ _ (omega arith)
+    lines_more 14 c.rows-rows.result.now c.loop-k.k _ blank_row c.put_line.new.bytes _ _ (omega arith)
     c.loop-k-test.true (omega arith) c.loop-k.invariant c.put_line-in-loop-k.ensures
 
 pub returns : goal.returns
 returns c =
     let sheet = c.args.sheet.now in
-    let rows = c.as_slice-rows.result.now in
-    rw (← c.as_slice-rows.ensures.value)
-    (text_begun sheet.classes sheet.arrows rows _ c.args.bytes.now _ _ refl (omega (arith, c.requires, ap length c.as_slice-rows.ensures.value))
+    let rows = c.rows-rows.result.now in
+    rw (← c.rows-rows.ensures.same)
+    (text_begun sheet.classes sheet.arrows rows _ c.args.bytes.now _ _ refl (omega (arith, c.requires, ap length c.rows-rows.ensures.same))
     c.put_line.ensures (c.loop-k.invariant ∙ ap (λ l. spliced 14 (row_lines l) c.put_line.new.bytes) (take_all c.loop-k.k rows c.loop-k-test.false)))

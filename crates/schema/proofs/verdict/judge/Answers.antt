@@ -1,13 +1,14 @@
 use Rattle.std.proofs.Common.{◌+◌, get_or, arith}
 use Rattle.schema.proofs.Doom.{class_bit, arrow_bit}
+use Rattle.schema.proofs.Schemas.{schema_passes}
 use Rattle.schema.proofs.Verity.{listed_all}
 use Rattle.schema.proofs.verdict.judge.Goals as goal
 
 pub returns : goal.returns
 returns c =
     let s = c.args.schema.now in
-    let rows = s.rows.items in
-    let p = s.passes in
+    let rows = s.sheet.rows.items in
+    let p = schema_passes s in
     let is_c = c.from-classes.ensures in
     let is-p = c.from-arrows.ensures in
     let classes = c.from-classes.result in

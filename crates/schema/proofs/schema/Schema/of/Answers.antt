@@ -2,7 +2,7 @@ use Rattle.std.proofs.lemmas.Result.{err_from_is_err_and}
 use Rattle.schema.specs.Verdicts.{sheet_faulty}
 use Rattle.schema.proofs.schema.Schema.of.Goals as goal
 
-pub returns-in_err-copy : goal.returns-in_err-copy
-returns-in_err-copy g c =
+pub returns-in_err-sheet : goal.returns-in_err-sheet
+returns-in_err-sheet g c =
     let p = err_from_is_err_and c.from_residual.result c.from_residual.ensures.1 in
-    rw (p.1, p.2) (sheet_faulty _ c.in_err-copy.ensures)
+    rw (p.1, p.2) (sheet_faulty _ c.in_err-sheet.ensures)
