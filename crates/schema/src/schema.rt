@@ -18,7 +18,7 @@ pub(crate) struct Schema {
 impl Schema {
     /// Copies a sheet, or says what is wrong with it.
     pub(crate) fn of<S: Sheet>(sheet: &S) -> Result<Schema, CheckFault>
-        ensures { MatchResult result (λ t. CopyOf (S.Sheet.shows sheet.now) t.sheet.classes t.sheet.arrows t.sheet.rows.items) (λ f. CheckFaulty (S.Sheet.shows sheet.now).classes (S.Sheet.shows sheet.now).arrows (S.Sheet.shows sheet.now).rows f) }
+        ensures { let s = S.Sheet.shows sheet.now in MatchResult result (λ t. CopyOf s t.sheet.classes t.sheet.arrows t.sheet.rows.items) (λ f. CheckFaulty s.classes s.arrows s.rows f) }
     {
         let sheet = SoundSheet::of(sheet)?;
         check_caps(&sheet)?;

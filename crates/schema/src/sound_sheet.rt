@@ -25,7 +25,7 @@ pub(crate) struct SoundSheet {
 impl SoundSheet {
     /// Copies a sheet, or says what is wrong with it.
     pub(crate) fn of<S: Sheet>(sheet: &S) -> Result<SoundSheet, SheetFault>
-        ensures { MatchResult result (λ t. CopyOf (S.Sheet.shows sheet.now) t.classes t.arrows t.rows.items) (λ f. SheetFaulty (S.Sheet.shows sheet.now).classes (S.Sheet.shows sheet.now).arrows (S.Sheet.shows sheet.now).rows f) }
+        ensures { let s = S.Sheet.shows sheet.now in MatchResult result (λ t. CopyOf s t.classes t.arrows t.rows.items) (λ f. SheetFaulty s.classes s.arrows s.rows f) }
     {
         let classes = sheet.classes();
         let arrows = sheet.arrows();
@@ -56,6 +56,7 @@ fn copy_rows<S: Sheet>(sheet: &S) -> ArrayVec<Row, MOST_ROWS>
     ensures { result.items ≡ (S.Sheet.shows sheet.now).rows }
 {
     let mut rows = ArrayVec::new();
+    // by numbers, since a sheet shows one row at a time
     for k in 0..sheet.len() {
         if let Some(row) = sheet.row(k) {
             rows.push(row);

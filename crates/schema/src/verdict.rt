@@ -40,7 +40,7 @@ fn write_names(table: &mut [u8], classes: usize, arrows: usize, empty: &[u8; 129
     ensures later { drop (classes + arrows) table.new ≡ drop (classes + arrows) table.old }
 {
     table[..classes].copy_from_slice(&empty[..classes]);
-    // by a number, which the key of its tail is made from
+    // by its number, since the tail of arrow p is key 64 + 2·p
     for arrow in 0..arrows {
         table[classes + arrow] = empty[64 + 2 * arrow];
     }

@@ -1,6 +1,6 @@
 use Rattle.std.proofs.Common.{get_or, arith}
 use Rattle.std.proofs.lemmas.Option.{slice_get-get_or}
-use Rattle.schema.specs.declared.row.Row.{Row}
+use Rattle.schema.specs.Columns.{blank_row}
 use Rattle.schema.specs.Rows.{Sound}
 use Rattle.schema.specs.Verdicts.{unsound_row}
 use Rattle.schema.proofs.Members.{each_below, every_∈}
@@ -9,10 +9,9 @@ use Rattle.schema.proofs.checks.check_sound.Goals as goal
 pub returns-in-Some : goal.returns-in-Some
 returns-in-Some c =
     let rows = c.args.rows.now in
-    let none : Row = record { letter = 0; a = 0; b = 0; n = 0 } in
-    unsound_row c.loop-k.k c.in-Some.field (get_or rows c.loop-k.k none) c.requires (slice_get-get_or rows c.loop-k.k none c.loop-k-test.true)
-    (each_below (Sound c.args.classes c.args.arrows) rows c.loop-k.k none (omega arith) c.loop-k.invariant) c.in-Some.ensures
+    unsound_row c.loop-k.k c.in-Some.field (get_or rows c.loop-k.k blank_row) c.requires (slice_get-get_or rows c.loop-k.k blank_row c.loop-k-test.true)
+    (each_below (Sound c.args.classes c.args.arrows) rows c.loop-k.k blank_row (omega arith) c.loop-k.invariant) c.in-Some.ensures
 
 pub returns : goal.returns
 returns c r m =
-    every_∈ (Sound c.args.classes c.args.arrows) c.args.rows.now (record { letter = 0; a = 0; b = 0; n = 0 }) (λ k l. c.loop-k.invariant k (omega arith)) r m
+    every_∈ (Sound c.args.classes c.args.arrows) c.args.rows.now blank_row (λ k l. c.loop-k.invariant k (omega arith)) r m
