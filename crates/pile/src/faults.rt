@@ -28,9 +28,9 @@ impl From<StrikeFault> for Notice {
 
     fn from(fault: StrikeFault) -> Notice {
         match fault {
-            StrikeFault::NoSuchRow => bare(4),
-            StrikeFault::StruckAlready => bare(5),
-            StrikeFault::TooManyStruck => bare(6),
+            StrikeFault::NoSuchRow => Notice::bare(4),
+            StrikeFault::StruckAlready => Notice::bare(5),
+            StrikeFault::TooManyStruck => Notice::bare(6),
         }
     }
 }
@@ -40,18 +40,7 @@ impl From<RestoreFault> for Notice {
 
     fn from(fault: RestoreFault) -> Notice {
         match fault {
-            RestoreFault::NotStruck => bare(7),
+            RestoreFault::NotStruck => Notice::bare(7),
         }
-    }
-}
-
-// A refusal that names no place.
-fn bare(number: u16) -> Notice
-    ensures { result ≡ record { number = number; first = 0; second = 0 } }
-{
-    Notice {
-        number,
-        first: 0,
-        second: 0,
     }
 }
