@@ -1,37 +1,29 @@
-//! Making a strike layer, striking and restoring rows, and what it shows.
-ghost use Rattle.std.specs.Prelude.{◌≡◌, ◌<◌, [], IfOk, IfErr};
+//! Striking and restoring rows, and what a strike layer shows.
+ghost use Rattle.std.specs.Prelude.{◌≡◌, ◌<◌};
+ghost use Rattle.pile.specs.Plain.{strike, strike_kind};
 ghost use Rattle.pile.specs.Standing.{shifted};
-ghost use Rattle.pile.specs.Strikes.{Restored, Struck, strike_bounded, strike_shows, struck_rows};
+ghost use Rattle.pile.specs.Strikes.{Restored, Struck, strike_keeps, struck_rows};
 
-use super::Strike;
+use super::{Strike, StruckRows};
 use crate::faults::{RestoreFault, StrikeFault};
+use crate::layer::Layer;
 use crate::limits::{MOST_SHOWN, MOST_STRUCK};
+use crate::request::{Answer, Call};
 use schema::faults::EnterFault;
 use schema::row::Row;
 use schema::sheet::Sheet;
-use std::alloc::{AllocFailed, Global};
+use std::alloc::{AllocError, Global};
 
 impl<S> Strike<S> {
-    /// A strike layer with nothing struck; where there is no memory for it, the sheet comes back.
-    pub fn new(heap: Global, below: S) -> Result<Strike<S>, AllocFailed<S>>
-        ensures made { IfOk result (λ t. (t.below ≡ below) × (struck_rows t ≡ [])) }
-        ensures refused { IfErr result (λ y. y.value ≡ below) }
-    {
-        match Vec::with_capacity(heap, MOST_STRUCK) {
-            Ok(struck) => Ok(Strike { below, struck }),
-            Err(_) => Err(AllocFailed { value: below }),
-        }
-    }
-
     /// Takes back the strike of row k, whether there still is such a row or not.
     pub fn restore(&mut self, k: usize) -> Result<(), RestoreFault>
         ensures restored { Restored (struck_rows self.old) k result (struck_rows self.new) }
         ensures below { self.new.below ≡ self.old.below }
     {
-        let Ok(at) = self.struck.binary_search(&k) else {
+        let Ok(at) = self.layer.struck.binary_search(&k) else {
             return Err(RestoreFault::NotStruck);
         };
-        self.struck.remove(at);
+        self.layer.struck.remove(at);
         Ok(())
     }
 }
@@ -45,49 +37,56 @@ impl<S: Sheet> Strike<S> {
         if k >= self.below.len() {
             return Err(StrikeFault::NoSuchRow);
         }
-        let Err(at) = self.struck.binary_search(&k) else {
+        let Err(at) = self.layer.struck.binary_search(&k) else {
             return Err(StrikeFault::StruckAlready);
         };
-        if self.struck.len() >= MOST_STRUCK {
+        if self.layer.struck.len() >= MOST_STRUCK {
             return Err(StrikeFault::TooManyStruck);
         }
-        self.struck.insert(at, k).unwrap();
+        self.layer.struck.insert(at, k).unwrap();
         Ok(())
     }
 }
 
-impl<S: Sheet> Sheet for Strike<S> {
-    ghost shows = { λ t. strike_shows (S.Sheet.shows t.below) (struck_rows t) };
+impl Layer for StruckRows {
+    ghost plain = { λ l. strike l.struck.items };
 
-    ghost bounded = { λ t. strike_bounded (S.Sheet.shows t.below) (struck_rows t) (S.Sheet.bounded t.below) };
+    ghost kind = { strike_kind };
 
-    fn classes(&self) -> u16 {
-        self.below.classes()
+    ghost keeps = { strike_keeps };
+
+    fn fresh(heap: Global) -> Result<StruckRows, AllocError> {
+        let struck = Vec::with_capacity(heap, MOST_STRUCK)?;
+        Ok(StruckRows { struck })
     }
 
-    fn arrows(&self) -> u16 {
-        self.below.arrows()
+    fn capacity<S: Sheet>(&self, below: &S) -> usize {
+        self.len(below)
     }
 
-    fn capacity(&self) -> usize {
-        self.len()
-    }
-
-    fn len(&self) -> usize {
-        let below = self.below.len();
+    fn len<S: Sheet>(&self, below: &S) -> usize {
+        let below = below.len();
         below - self.struck.partition_point(|number| *number < below)
     }
 
-    fn row(&self, k: usize) -> Option<Row> {
+    fn row<S: Sheet>(&self, below: &S, k: usize) -> Option<Row> {
         // no sheet shows so many rows, and the numbers stay small
         if k >= MOST_SHOWN {
             return None;
         }
-        self.below.row(skip(self.struck.as_slice(), k))
+        below.row(skip(self.struck.as_slice(), k))
     }
 
-    fn enter(&mut self, _row: Row) -> Result<(), EnterFault> {
+    fn enter<S: Sheet>(&mut self, _below: &S, _row: Row) -> Result<(), EnterFault> {
         Err(EnterFault::Full)
+    }
+
+    fn own_call<S: Sheet>(layered: &mut Strike<S>, call: Call) -> Result<Answer, Call> {
+        match call {
+            Call::Strike(k) => Ok(Answer::Struck(layered.strike(k))),
+            Call::Restore(k) => Ok(Answer::Restored(layered.restore(k))),
+            call => Err(call),
+        }
     }
 }
 
