@@ -1,21 +1,12 @@
 //! Loading a text into a part of a pile.
 ghost use Rattle.std.specs.Prelude.{◌≡◌, ◌+◌, ◌≤◌, length};
-ghost use Rattle.pile.specs.Lives.{AtTop, Loading};
+ghost use Rattle.pile.specs.Lives.{Loading};
 ghost use Rattle.pile.specs.Plain.{grown, top};
 
 use crate::part::Part;
-use crate::request::{Answer, Call};
 use schema::faults::LoadFault;
 use schema::loading::admit;
 use schema::row::Row;
-
-/// Loads a text, which is given back.
-pub(crate) fn load_text<P: Part>(part: &mut P, text: Vec<u8>) -> Answer
-    ensures { AtTop (P.Part.plain part.old) (Call.Load text) result (P.Part.plain part.new) }
-{
-    let loaded = load_part(part, text.as_slice());
-    Answer::Loaded(loaded, text)
-}
 
 /// Puts all rows of a text into a part in their order, or says why the part stays as it was. Each row goes in by the
 /// part's own call, so that one knows what becomes of the plain pile and not only what is shown.

@@ -1,7 +1,7 @@
 //! The calls that every part has.
 ghost use Rattle.pile.specs.Lives.{Common};
 
-use crate::loading::load_text;
+use crate::loading::load_part;
 use crate::looks::see;
 use crate::part::Part;
 use crate::request::{Answer, Call};
@@ -12,7 +12,10 @@ pub(crate) fn common_call<P: Part>(part: &mut P, call: Call) -> Answer
 {
     match call {
         Call::Enter(row) => Answer::Entered(part.put(row)),
-        Call::Load(text) => load_text(part, text),
+        Call::Load(text) => {
+            let loaded = load_part(part, text.as_slice());
+            Answer::Loaded(loaded, text)
+        }
         Call::Look(look) => Answer::Seen(see(&*part, look)),
         call => Answer::NotHere(call),
     }

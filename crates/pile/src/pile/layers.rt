@@ -52,12 +52,10 @@ impl<L: Layer, P: Pile + Drop> Pile for Layered<L, P> {
 
     fn call(&mut self, part: usize, call: Call) -> Answer {
         let below = self.below.height();
-        if part <= below {
-            return self.below.call(part, call);
+        match part.saturating_sub(below) {
+            0 => self.below.call(part, call),
+            1 => self.answer(call),
+            _ => Answer::NoPart(call),
         }
-        if part > below + 1 {
-            return Answer::NoPart(call);
-        }
-        self.answer(call)
     }
 }
