@@ -95,11 +95,7 @@ fn skip(struck: &[usize], k: usize) -> usize
     requires { k < 65535 }
     ensures { result ≡ shifted k struck.now }
 {
-    let mut at = k;
-    for number in struck {
-        if *number <= at {
-            at += 1;
-        }
-    }
-    at
+    struck
+        .iter()
+        .fold(k, |at, number| if *number <= at { at + 1 } else { at })
 }
