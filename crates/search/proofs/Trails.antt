@@ -1,10 +1,20 @@
 -- Facts about following links, and the steps of the search.
-use Rattle.std.proofs.Common.{◌≡◌, ℕ, zero, suc, ◌+◌, ◌<◌, ◌≤◌, Bool, true, false, cond, eqb, List, [], ◌∷◌, ◌++◌, length, get_or, set, sym, refl, ap, ◌∙◌, subst, inl, inr, ⊎_elim, le_of_suc-le-suc, not-suc-le-zero, arith, length-append, length-set, get_or-set_other, get_or-set_same, drop-set-lt}
+use Rattle.std.proofs.Common.{◌≡◌, ℕ, suc, ◌+◌, ◌<◌, ◌≤◌, cond, List, [], ◌∷◌, ◌++◌, length, get_or, set, sym, ap, ◌∙◌, subst, inl, inr, ⊎_elim, arith, length-append, length-set, get_or-set_other, get_or-set_same, replicate}
 use lib.Seq.{get_or-append_seam}
-use Rattle.std.proofs.lemmas.Bool.{cases_eq, cases_Bool, cases_lt, eq-eqb}
-use Rattle.std.proofs.lemmas.List.{get_or_append_left}
+use Rattle.std.proofs.lemmas.Bool.{cases_eq, cases_lt}
+use Rattle.std.proofs.lemmas.List.{get_or_append_left, get_or_default, get_or-replicate}
+use Rattle.std.proofs.lemmas.List.Elements.{All-get_or, All-set, Contains-append_left, Contains-push}
+use Rattle.std.proofs.lemmas.List.Sums.{count_by-le-length, sum_by-set}
+use Rattle.std.proofs.Math.Logic.{∥∥₁_elim}
+use Rattle.std.proofs.Math.Nat.{ℕ_set}
+use mathlib.Core.Logic.{∥∥₁_prop}
+use Rattle.std.specs.Prelude.{◌==◌}
+use Rattle.std.specs.List.{Contains, count_by}
+use Rattle.arrayvec.specs.ArrayVec.{ArrayVec}
 use Rattle.search.specs.Leads.{Leads, stay, go, Joined, Marked}
-use Rattle.search.specs.Trail.{zeros, Trail, Grows}
+use Rattle.search.specs.Marks.{Lists}
+use Rattle.search.specs.Trail.{Grows}
+use Rattle.search.specs.declared.trail.Trail.{Trail}
 
 -- the links of the first `done` points of the order lead to marked points
 abbrev pub Closed : ℕ → (ℕ → ℕ → Type 0) → List ℕ → List ℕ → ℕ → Type 0
@@ -38,27 +48,6 @@ pub leads_inside : {n : ℕ} {link : ℕ → ℕ → Type 0} {x k : ℕ} → Lea
 leads_inside stay h = h
 leads_inside (go l k) h = leads_inside k l.1
 
--- a mark in the place of a 0 leaves one 0 fewer
-pub zeros_set : (n : ℕ) (xs : List ℕ) (j : ℕ) → j < n → n ≤ length xs → get_or xs j 0 ≡ 0 → suc (zeros n (set xs j 1)) ≡ zeros n xs
-zeros_set zero xs j h l e = absurd (not-suc-le-zero h)
-zeros_set (suc n) [] j h l e = absurd (not-suc-le-zero l)
-zeros_set (suc n) (x ∷ xs) zero h l e = ap (λ (b : Bool). cond b (suc (zeros n xs)) (zeros n xs)) (sym (eq-eqb x 0 e))
-zeros_set (suc n) (x ∷ xs) (suc j) h l e =
-    let q : suc (zeros n (set xs j 1)) ≡ zeros n xs = zeros_set n xs j (le_of_suc-le-suc h) (le_of_suc-le-suc l) e in
-    ⊎_elim
-    (λ (b : eqb x 0 ≡ true). rw b (ap suc q))
-    (λ (b : eqb x 0 ≡ false). rw b q)
-    (cases_Bool (eqb x 0))
-
--- where each of the first n entries is 0, there are n of them
-pub zeros_all : (n : ℕ) (xs : List ℕ) → n ≤ length xs → ((k : ℕ) → k < n → get_or xs k 0 ≡ 0) → zeros n xs ≡ n
-zeros_all zero xs l h = refl
-zeros_all (suc n) [] l h = absurd (not-suc-le-zero l)
-zeros_all (suc n) (x ∷ xs) l h =
-    let e : eqb x 0 ≡ true = eq-eqb x 0 (h 0 (omega arith)) in
-    let q : zeros n xs ≡ n = zeros_all n xs (le_of_suc-le-suc l) (λ k b. h (suc k) (omega arith)) in
-    rw e (ap suc q)
-
 -- a mark stays when another is set
 pub still_marked : (table : List ℕ) (j k : ℕ) → j < length table → get_or table k 0 ≡ 1 → get_or (set table j 1) k 0 ≡ 1
 still_marked table j k l e =
@@ -71,166 +60,146 @@ still_marked table j k l e =
 pub zero_one : {x : ℕ} → x ≡ 0 → x ≡ 1 → ⊥
 zero_one p q = omega arith
 
--- marking and queueing an unmarked point keeps the trail
-pub trail_set : (n : ℕ) (table order : List ℕ) (j : ℕ) → Trail n table order → j < n → get_or table j 0 ≡ 0 → Trail n (set table j 1) (order ++ j ∷ [])
-trail_set n table order j t h z =
-    let l : j < length table = omega (arith, t.long) in
+-- where all marks are 0, each is
+pub unmarked : (marks : List ℕ) → marks ≡ replicate (length marks) 0 → (k : ℕ) → k < length marks → get_or marks k 0 ≡ 0
+unmarked marks z k b = ap (λ (xs : List ℕ). get_or xs k 0) z ∙ get_or-replicate (length marks) k 0 0 b
+
+-- a mark where there was none is one mark more
+pub marks_more : (marks : List ℕ) (j : ℕ) → j < length marks → get_or marks j 0 ≡ 0 → count_by (λ m. m == 1) (set marks j 1) ≡ suc (count_by (λ m. m == 1) marks)
+marks_more marks j h z =
+    let e = sum_by-set (λ m. cond (m == 1) 1 0) marks j 1 0 h in
+    let one : ℕ → ℕ = λ m. cond (m == 1) 1 0 in
+    let f : one (get_or marks j 0) ≡ one 0 = ap one z in
+    omega (arith, e, f)
+
+-- there is room for a point that is not marked
+pub room_for : (marks order : List ℕ) (j : ℕ) → Lists marks order → j < length marks → get_or marks j 0 ≡ 0 → length order < length marks
+room_for marks order j t h z =
+    omega (arith, t.once, marks_more marks j h z, count_by-le-length (λ m. m == 1) (set marks j 1), length-set marks j 1)
+
+-- marking and listing an unmarked point keeps the list right
+pub lists_set : (marks order : List ℕ) (j : ℕ) → Lists marks order → j < length marks → get_or marks j 0 ≡ 0 → Lists (set marks j 1) (order ++ j ∷ [])
+lists_set marks order j t l z =
     let a : length (order ++ j ∷ []) ≡ length order + 1 = length-append order (j ∷ []) in
+    let s : length (set marks j 1) ≡ length marks = length-set marks j 1 in
     record {
-      bits = λ k b. ⊎_elim
-          (λ (p : k ≡ j). inr (ap (λ (i : ℕ). get_or (set table j 1) i 0) p ∙ get_or-set_same table j 1 0 l))
-          (λ (p : k ≡ j → ⊥). ⊎_elim (λ (u : get_or table k 0 ≡ 0). inl (get_or-set_other table j k 1 0 p ∙ u)) (λ (u : get_or table k 0 ≡ 1). inr (get_or-set_other table j k 1 0 p ∙ u)) (t.bits k b))
-          (cases_eq k j);
+      bits = All-set (λ m. m ≤ 1) marks j 1 (omega arith) t.bits;
       listed = λ k b e. ⊎_elim
-          (λ (p : k ≡ j). (length order, omega arith, get_or-append_seam order j [] 0 ∙ sym p))
-          (λ (p : k ≡ j → ⊥). let m = t.listed k b (sym (get_or-set_other table j k 1 0 p) ∙ e) in
-          (m.0, omega (arith, m.1), get_or_append_left order (j ∷ []) 0 m.0 m.1 ∙ m.2))
+          (λ (p : k ≡ j). ∣ subst (Contains (order ++ j ∷ [])) (sym p) (Contains-push order j) ∣₁)
+          (λ (p : k ≡ j → ⊥). ∥∥₁_elim (t.listed k (omega arith) (sym (get_or-set_other marks j k 1 0 p) ∙ e)) ∥∥₁_prop (λ m. ∣ Contains-append_left order (j ∷ []) k m ∣₁))
           (cases_eq k j);
       inside = λ i b. ⊎_elim
           (λ (u : i < length order).
           let q : get_or (order ++ j ∷ []) i 0 ≡ get_or order i 0 = get_or_append_left order (j ∷ []) 0 i u in
           let m = t.inside i u in
-          (omega (arith, q, m.0), ap (λ (x : ℕ). get_or (set table j 1) x 0) q ∙ still_marked table j (get_or order i 0) l m.1))
+          (omega (arith, q, m.0, s), ap (λ (x : ℕ). get_or (set marks j 1) x 0) q ∙ still_marked marks j (get_or order i 0) l m.1))
           (λ (u : length order ≤ i).
           let w : i ≡ length order = omega arith in
           let q : get_or (order ++ j ∷ []) i 0 ≡ j = ap (λ (x : ℕ). get_or (order ++ j ∷ []) x 0) w ∙ get_or-append_seam order j [] 0 in
-          (omega (arith, q), ap (λ (x : ℕ). get_or (set table j 1) x 0) q ∙ get_or-set_same table j 1 0 l))
+          (omega (arith, q, s), ap (λ (x : ℕ). get_or (set marks j 1) x 0) q ∙ get_or-set_same marks j 1 0 l))
           (cases_lt i (length order));
-      room = omega (arith, zeros_set n table j h t.long z, t.room);
-      long = omega (arith, length-set table j 1, t.long);
+      once = omega (arith, a, t.once, marks_more marks j l z);
     }
 
--- before the first mark the trail is empty
-pub trail_none : (n : ℕ) (table : List ℕ) → n ≤ length table → ((k : ℕ) → k < n → get_or table k 0 ≡ 0) → Trail n table []
-trail_none n table l z =
-    record {
-      bits = λ k b. inl (z k b);
-      listed = λ k b e. absurd (zero_one (z k b) e);
-      inside = λ i b. absurd (not-suc-le-zero b);
-      room = omega (arith, zeros_all n table l z);
-      long = l;
-    }
-
--- marking and queueing a linked point loses nothing
-pub grows_set : (n : ℕ) (to : ℕ → Type 0) (table order : List ℕ) (j : ℕ) → n ≤ length table → j < n → to j → Grows n to table order (set table j 1) (order ++ j ∷ [])
-grows_set n to table order j l h f =
-    record {
-      kept = λ k b e. still_marked table j k (omega arith) e;
-      fresh = λ k b e. ⊎_elim
-          (λ (p : k ≡ j). inr (subst to (sym p) f))
-          (λ (p : k ≡ j → ⊥). inl (sym (get_or-set_other table j k 1 0 p) ∙ e))
-          (cases_eq k j);
-      same = λ i b. get_or_append_left order (j ∷ []) 0 i b;
-      longer = omega (arith, length-append order (j ∷ []));
-      later = drop-set-lt n table j 1 h;
-    }
-
--- two steps that lose nothing, one after the other
-pub grows_more : {n : ℕ} {to : ℕ → Type 0} {a b c d e f : List ℕ} → Grows n to a b c d → Grows n to c d e f → Grows n to a b e f
-grows_more {to = to} {a = a} {c = c} g h =
-    record {
-      kept = λ k l e. h.kept k l (g.kept k l e);
-      fresh = λ k l e. ⊎_elim (λ (p : get_or c k 0 ≡ 1). g.fresh k l p) (λ (p : to k). inr p) (h.fresh k l e);
-      same = λ i l. h.same i (omega (arith, g.longer)) ∙ g.same i l;
-      longer = omega (arith, g.longer, h.longer);
-      later = h.later ∙ g.later;
-    }
-
--- no step loses nothing
-pub grows_none : {n : ℕ} {to : ℕ → Type 0} {a b : List ℕ} → Grows n to a b a b
-grows_none = record { kept = λ k l e. e; fresh = λ k l e. inl e; same = λ i l. refl; longer = omega arith; later = refl }
-
--- the points below j + 1 that are linked to are marked, where those below `at` were and j is the next
-pub visited_more : (n : ℕ) (to : ℕ → Type 0) (at j : ℕ) (table table' : List ℕ) → ((i : ℕ) → i < at → i < n → to i → get_or table i 0 ≡ 1) → ((i : ℕ) → at ≤ i → i < j → to i → ⊥)
-    → ((k : ℕ) → k < n → get_or table k 0 ≡ 1 → get_or table' k 0 ≡ 1) → get_or table' j 0 ≡ 1 → (i : ℕ) → i < j + 1 → i < n → to i → get_or table' i 0 ≡ 1
-visited_more n to at j table table' before gap kept here i b l e =
-    ⊎_elim
-    (λ (u : i < at). kept i l (before i u l e))
-    (λ (u : at ≤ i). ⊎_elim
-    (λ (w : i < j). absurd (gap i u w e))
-    (λ (w : j ≤ i). let p : j ≡ i = omega arith in ap (λ (x : ℕ). get_or table' x 0) (sym p) ∙ here)
-    (cases_lt i j))
-    (cases_lt i at)
-
--- every point that is linked to is marked, where those below `at` are and there is no next one
-pub visited_all : (n : ℕ) (to : ℕ → Type 0) (at : ℕ) (table : List ℕ) → ((i : ℕ) → i < at → i < n → to i → get_or table i 0 ≡ 1) → ((i : ℕ) → at ≤ i → i < n → to i → ⊥)
-    → (i : ℕ) → i < n → to i → get_or table i 0 ≡ 1
-visited_all n to at table before gap i l e =
-    ⊎_elim (λ (u : i < at). before i u l e) (λ (u : at ≤ i). absurd (gap i u l e)) (cases_lt i at)
-
--- a byte of the table that is not 0 is 1
-pub not_zero : (n : ℕ) (table order : List ℕ) (k : ℕ) → Trail n table order → k < n → (get_or table k 0 ≡ 0 → ⊥) → get_or table k 0 ≡ 1
-not_zero n table order k t h z = ⊎_elim (λ (p : get_or table k 0 ≡ 0). absurd (z p)) (λ (p : get_or table k 0 ≡ 1). p) (t.bits k h)
-
--- what is so once a linked point is reached: it is marked, and nothing is lost
-abbrev pub Reached : (n : ℕ) (to : ℕ → Type 0) (j : ℕ) (table order table' order' : List ℕ) → Type 0
-Reached n to j table order table' order' = Trail n table' order' × Grows n to table order table' order' × (get_or table' j 0 ≡ 1)
-
--- a linked point that was not marked is reached by its mark and its place in the queue
-pub reached_new : (n : ℕ) (to : ℕ → Type 0) (j : ℕ) (table order table' order' : List ℕ) → Trail n table order → j < n → to j → get_or table j 0 ≡ 0
-    → table' ≡ set table j 1 → order' ≡ order ++ j ∷ [] → Reached n to j table order table' order'
-reached_new n to j table order table' order' t h f z p q =
-    subst (λ (a : List ℕ). Reached n to j table order a order') (sym p)
-    (subst (λ (a : List ℕ). Reached n to j table order (set table j 1) a) (sym q)
-    (trail_set n table order j t h z, grows_set n to table order j t.long h f, get_or-set_same table j 1 0 (omega (arith, t.long))))
-
--- a linked point that was marked is reached already
-pub reached_old : (n : ℕ) (to : ℕ → Type 0) (j : ℕ) (table order table' order' : List ℕ) → Trail n table order → j < n → (get_or table j 0 ≡ 0 → ⊥)
-    → table' ≡ table → order' ≡ order → Reached n to j table order table' order'
-reached_old n to j table order table' order' t h z p q =
-    subst (λ (a : List ℕ). Reached n to j table order a order') (sym p)
-    (subst (λ (a : List ℕ). Reached n to j table order table a) (sym q)
-    (t, grows_none, not_zero n table order j t h z))
+-- a mark that is not 0 is 1
+pub not_zero : (marks order : List ℕ) (k : ℕ) → Lists marks order → k < length marks → (get_or marks k 0 ≡ 0 → ⊥) → get_or marks k 0 ≡ 1
+not_zero marks order k t h z = omega (arith, z, All-get_or (λ m. m ≤ 1) marks k 0 h t.bits)
 
 -- the first mark is the start's
-pub sound_one : (n : ℕ) (link : ℕ → ℕ → Type 0) (start : ℕ) (table : List ℕ) → ((k : ℕ) → k < n → get_or table k 0 ≡ 0) → (k : ℕ) → k < n → get_or (set table start 1) k 0 ≡ 1 → Leads (Joined n link) start k
-sound_one n link start table z k h e =
+pub sound_one : (link : ℕ → ℕ → Type 0) (start n : ℕ) (old new : Trail) → old.marks.now ≡ replicate (length old.marks.now) 0 → length old.marks.now ≡ n → Grows (λ k. k ≡ start) old new
+    → (k : ℕ) → k < n → get_or new.marks.now k 0 ≡ 1 → Leads (Joined n link) start k
+sound_one link start n old new z s g k h e =
     ⊎_elim
+    (λ (p : get_or old.marks.now k 0 ≡ 1). absurd (zero_one (unmarked old.marks.now z k (omega arith)) p))
     (λ (p : k ≡ start). subst (Leads (Joined n link) start) (sym p) stay)
-    (λ (p : k ≡ start → ⊥). absurd (zero_one (z k h) (sym (get_or-set_other table start k 1 0 p) ∙ e)))
-    (cases_eq k start)
+    (g.fresh k (omega arith) e)
 
 -- the marked points are led to, and still are where each new one is linked from one of them
-pub sound_more : (n : ℕ) (link : ℕ → ℕ → Type 0) (start from done : ℕ) (table order table' order' : List ℕ) → Trail n table order → ((k : ℕ) → k < n → get_or table k 0 ≡ 1 → Leads (Joined n link) start k)
-    → done < length order → from ≡ get_or order done 0 → Grows n (link from) table order table' order' → (k : ℕ) → k < n → get_or table' k 0 ≡ 1 → Leads (Joined n link) start k
-sound_more n link start from done table order table' order' t sound h q g k b e =
-    let m = t.inside done h in
+pub sound_more : (link : ℕ → ℕ → Type 0) (start from n : ℕ) (old new : Trail) → Lists old.marks.now old.found.items → length old.marks.now ≡ n → ((k : ℕ) → k < n → get_or old.marks.now k 0 ≡ 1 → Leads (Joined n link) start k)
+    → (i : ℕ) → i < length old.found.items → from ≡ get_or old.found.items i 0 → Grows (link from) old new → (k : ℕ) → k < n → get_or new.marks.now k 0 ≡ 1 → Leads (Joined n link) start k
+sound_more link start from n old new t s sound i h q g k b e =
+    let m = t.inside i h in
     let f : from < n = omega (arith, m.0) in
     ⊎_elim
-    (λ (p : get_or table k 0 ≡ 1). sound k b p)
-    (λ (p : link from k). leads_then (sound from f (ap (λ (x : ℕ). get_or table x 0) q ∙ m.1)) (f, b, p))
-    (g.fresh k b e)
+    (λ (p : get_or old.marks.now k 0 ≡ 1). sound k b p)
+    (λ (p : link from k). leads_then (sound from f (ap (λ (x : ℕ). get_or old.marks.now x 0) q ∙ m.1)) (f, b, p))
+    (g.fresh k (omega arith) e)
 
 -- the links of one more point of the order lead to marked points
-pub closed_more : (n : ℕ) (link : ℕ → ℕ → Type 0) (from done : ℕ) (table order table' order' : List ℕ) → Closed n link table order done → done < length order → from ≡ get_or order done 0
-    → Grows n (link from) table order table' order' → ((k : ℕ) → k < n → link from k → get_or table' k 0 ≡ 1) → Closed n link table' order' (done + 1)
-closed_more n link from done table order table' order' c h q g all i b j l e =
-    let f : link (get_or order i 0) j = subst (λ (x : ℕ). link x j) (g.same i (omega arith)) e in
+pub closed_more : (link : ℕ → ℕ → Type 0) (from done n : ℕ) (old new : Trail) → length old.marks.now ≡ n → Closed n link old.marks.now old.found.items done → done < length old.found.items
+    → from ≡ get_or old.found.items done 0 → Grows (link from) old new → ((k : ℕ) → k < n → link from k → get_or new.marks.now k 0 ≡ 1) → Closed n link new.marks.now new.found.items (done + 1)
+closed_more link from done n old new s c h q g all i b j l e =
+    let f : link (get_or old.found.items i 0) j = subst (λ (x : ℕ). link x j) (g.same i (omega arith)) e in
     ⊎_elim
-    (λ (u : i < done). g.kept j l (c i u j l f))
-    (λ (u : done ≤ i). let p : i ≡ done = omega arith in all j l (subst (λ (x : ℕ). link x j) (ap (λ (x : ℕ). get_or order x 0) p ∙ sym q) f))
+    (λ (u : i < done). g.kept j (omega arith) (c i u j l f))
+    (λ (u : done ≤ i). let p : i ≡ done = omega arith in all j l (subst (λ (x : ℕ). link x j) (ap (λ (x : ℕ). get_or old.found.items x 0) p ∙ sym q) f))
     (cases_lt i done)
 
 -- from a marked point, links lead to marked points only, once the links of each point of the order do
-pub leads_marked : (n : ℕ) (link : ℕ → ℕ → Type 0) (table order : List ℕ) {x k : ℕ} → Trail n table order → Closed n link table order (length order)
-    → Leads (Joined n link) x k → get_or table x 0 ≡ 1 → get_or table k 0 ≡ 1
-leads_marked n link table order t c stay m = m
-leads_marked n link table order t c (go {x = x} {y = y} l k) m =
-    let i = t.listed x l.0 m in
-    leads_marked n link table order t c k (c i.0 i.1 y l.1 (subst (λ (a : ℕ). link a y) (sym i.2) l.2))
+pub leads_marked : (n : ℕ) (link : ℕ → ℕ → Type 0) (marks order : List ℕ) {x k : ℕ} → Lists marks order → length marks ≡ n → Closed n link marks order (length order)
+    → Leads (Joined n link) x k → get_or marks x 0 ≡ 1 → get_or marks k 0 ≡ 1
+leads_marked n link marks order t s c stay m = m
+leads_marked n link marks order t s c (go {x = x} {y = y} l k) m =
+    ∥∥₁_elim (t.listed x (omega (arith, l.0)) m) (ℕ_set _ _) (λ i.
+    let e : get_or order i.0 0 ≡ x = get_or_default order i.0 0 x i.1 ∙ i.2 in
+    leads_marked n link marks order t s c k (c i.0 i.1 y l.1 (subst (λ (a : ℕ). link a y) (sym e) l.2)))
 
 -- once the links of each point of the order lead to marked points, the marks are exactly the points that the start leads to
-pub all_marked : (n : ℕ) (link : ℕ → ℕ → Type 0) (start : ℕ) (table order : List ℕ) → Trail n table order → ((k : ℕ) → k < n → get_or table k 0 ≡ 1 → Leads (Joined n link) start k)
-    → Closed n link table order (length order) → get_or table start 0 ≡ 1 → Marked n link start table
-all_marked n link start table order t sound c s k h =
+pub all_marked : (n : ℕ) (link : ℕ → ℕ → Type 0) (start : ℕ) (marks order : List ℕ) → Lists marks order → length marks ≡ n → ((k : ℕ) → k < n → get_or marks k 0 ≡ 1 → Leads (Joined n link) start k)
+    → Closed n link marks order (length order) → get_or marks start 0 ≡ 1 → Marked n link start marks
+all_marked n link start marks order t s sound c b k h =
     ⊎_elim
-    (λ (z : get_or table k 0 ≡ 0). inr (z, λ l. zero_one z (leads_marked n link table order t c l s)))
-    (λ (o : get_or table k 0 ≡ 1). inl (o, sound k h o))
-    (t.bits k h)
+    (λ (z : get_or marks k 0 ≡ 0). inr (z, λ l. zero_one z (leads_marked n link marks order t s c l b)))
+    (λ (o : get_or marks k 0 ≡ 0 → ⊥). let m = not_zero marks order k t (omega arith) o in inl (m, sound k h m))
+    (cases_eq (get_or marks k 0) 0)
+
+-- what holds of a trail after each point that is followed: each mark is of a point that the start leads to, the links of the points followed lead to marked points, and the start is marked
+pub record Follows (n : ℕ) (link : ℕ → ℕ → Type 0) (start : ℕ) (trail : Trail) : Type 0 where
+  pub size : length trail.marks.now ≡ n
+  pub sound : (k : ℕ) → k < n → get_or trail.marks.now k 0 ≡ 1 → Leads (Joined n link) start k
+  pub closed : Closed n link trail.marks.now trail.found.items trail.followed
+  pub begun : get_or trail.marks.now start 0 ≡ 1
+
+-- it holds once the start is marked
+pub follows_start : (n : ℕ) (link : ℕ → ℕ → Type 0) (start : ℕ) (a b : Trail) → a.marks.now ≡ replicate (length a.marks.now) 0 → length a.marks.now ≡ n → a.followed ≡ 0
+    → Grows (λ k. k ≡ start) a b → get_or b.marks.now start 0 ≡ 1 → Follows n link start b
+follows_start n link start a b z s f g m =
+    record {
+      size = g.size ∙ s;
+      sound = sound_one link start n a b z s g;
+      closed = λ i h. absurd (omega (arith, h, f, g.followed));
+      begun = m;
+    }
+
+-- and stays so when the next point is taken and its links are followed
+pub follows_more : (n : ℕ) (link : ℕ → ℕ → Type 0) (start from : ℕ) (a b d : Trail) → Follows n link start a → start < n → b.marks.now ≡ a.marks.now → b.found ≡ a.found
+    → a.followed < length a.found.items → b.followed ≡ a.followed + 1 → from ≡ get_or a.found.items a.followed 0
+    → Grows (link from) b d → ((k : ℕ) → k < n → link from k → get_or d.marks.now k 0 ≡ 1) → Follows n link start d
+follows_more n link start from a b d f h p q l t r g all =
+    let s : length b.marks.now ≡ n = ap length p ∙ f.size in
+    let l' : a.followed < length b.found.items = subst (λ (v : ArrayVec ℕ). a.followed < length v.items) (sym q) l in
+    let r' : from ≡ get_or b.found.items a.followed 0 = subst (λ (v : ArrayVec ℕ). from ≡ get_or v.items a.followed 0) (sym q) r in
+    let c : Closed n link b.marks.now b.found.items a.followed =
+    subst (λ (xs : List ℕ). Closed n link xs b.found.items a.followed) (sym p) (subst (λ (v : ArrayVec ℕ). Closed n link a.marks.now v.items a.followed) (sym q) f.closed) in
+    record {
+      size = g.size ∙ s;
+      sound = sound_more link start from n b d b.lists s (λ k u e. f.sound k u (ap (λ (xs : List ℕ). get_or xs k 0) (sym p) ∙ e)) a.followed l' r' g;
+      closed = subst (Closed n link d.marks.now d.found.items) (sym (g.followed ∙ t)) (closed_more link from a.followed n b d s c l' r' g all);
+      begun = g.kept start (omega (arith, s)) (ap (λ (xs : List ℕ). get_or xs start 0) p ∙ f.begun);
+    }
+
+-- when there is no next point, the marks are those that the start leads to
+pub follows_all : (n : ℕ) (link : ℕ → ℕ → Type 0) (start : ℕ) (a : Trail) (marks : List ℕ) → Follows n link start a → a.followed ≡ length a.found.items → marks ≡ a.marks.now → Marked n link start marks
+follows_all n link start a marks f e p =
+    subst (Marked n link start) (sym p) (all_marked n link start a.marks.now a.found.items a.lists f.size f.sound (subst (Closed n link a.marks.now a.found.items) e f.closed) f.begun)
 
 -- a start beyond the last point leads to none of them, as a table of zeros says
-pub none_marked : (n : ℕ) (link : ℕ → ℕ → Type 0) (start : ℕ) (table : List ℕ) → n ≤ start → ((k : ℕ) → k < n → get_or table k 0 ≡ 0) → Marked n link start table
-none_marked n link start table o z k h = inr (z k h, λ l. leads_nowhere o h l)
+pub none_marked : (n : ℕ) (link : ℕ → ℕ → Type 0) (start : ℕ) (marks : List ℕ) → length marks ≡ n → n ≤ start → marks ≡ replicate (length marks) 0 → Marked n link start marks
+none_marked n link start marks s o z k h = inr (unmarked marks z k (omega arith), λ l. leads_nowhere o h l)
+
+-- the marks stand at the front of the table
+pub marked_front : (n : ℕ) (link : ℕ → ℕ → Type 0) (start : ℕ) (marks rest : List ℕ) → length marks ≡ n → Marked n link start marks → Marked n link start (marks ++ rest)
+marked_front n link start marks rest s m k h = rw (get_or_append_left marks rest 0 k (omega arith)) (m k h)
 
 -- the start leads to a point whose byte is 1
 pub marked_one : (n : ℕ) (link : ℕ → ℕ → Type 0) (start : ℕ) (table : List ℕ) (k : ℕ) → Marked n link start table → k < n → get_or table k 0 ≡ 1 → Leads (Joined n link) start k
