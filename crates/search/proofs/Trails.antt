@@ -5,10 +5,11 @@ use Rattle.std.proofs.lemmas.Bool.{cases_eq, cases_lt}
 use Rattle.std.proofs.lemmas.List.{get_or_append_left, get_or_default, get_or-replicate}
 use Rattle.std.proofs.lemmas.List.Elements.{All-get_or, All-set, Contains-append_left, Contains-push}
 use Rattle.std.proofs.lemmas.List.Sums.{count_by-le-length, sum_by-set}
+use Rattle.std.proofs.lemmas.Option.{get_or_from_slice_get, slice_get-get_or, slice_get_within}
 use Rattle.std.proofs.Math.Logic.{∥∥₁_elim}
 use Rattle.std.proofs.Math.Nat.{ℕ_set}
 use mathlib.Core.Logic.{∥∥₁_prop}
-use Rattle.std.specs.Prelude.{◌==◌}
+use Rattle.std.specs.Prelude.{◌==◌, Some, None, slice_get}
 use Rattle.std.specs.List.{Contains, count_by}
 use Rattle.arrayvec.specs.ArrayVec.{ArrayVec}
 use Rattle.search.specs.Leads.{Leads, stay, go, Joined, Marked}
@@ -173,24 +174,27 @@ follows_start n link start a b z s f g m =
 
 -- and stays so when the next point is taken and its links are followed
 pub follows_more : (n : ℕ) (link : ℕ → ℕ → Type 0) (start from : ℕ) (a b d : Trail) → Follows n link start a → start < n → b.marks.now ≡ a.marks.now → b.found ≡ a.found
-    → a.followed < length a.found.items → b.followed ≡ a.followed + 1 → from ≡ get_or a.found.items a.followed 0
+    → slice_get a.found.items a.followed ≡ Some from → b.followed ≡ a.followed + 1
     → Grows (link from) b d → ((k : ℕ) → k < n → link from k → get_or d.marks.now k 0 ≡ 1) → Follows n link start d
-follows_more n link start from a b d f h p q l t r g all =
+follows_more n link start from a b d f h p q r t g all =
     let s : length b.marks.now ≡ n = ap length p ∙ f.size in
-    let l' : a.followed < length b.found.items = subst (λ (v : ArrayVec ℕ). a.followed < length v.items) (sym q) l in
-    let r' : from ≡ get_or b.found.items a.followed 0 = subst (λ (v : ArrayVec ℕ). from ≡ get_or v.items a.followed 0) (sym q) r in
+    let r' : slice_get b.found.items a.followed ≡ Some from = subst (λ (v : ArrayVec ℕ). slice_get v.items a.followed ≡ Some from) (sym q) r in
+    let l : a.followed < length b.found.items = slice_get_within b.found.items a.followed from r' in
+    let e : from ≡ get_or b.found.items a.followed 0 = sym (get_or_from_slice_get b.found.items a.followed from 0 r') in
     let c : Closed n link b.marks.now b.found.items a.followed =
     subst (λ (xs : List ℕ). Closed n link xs b.found.items a.followed) (sym p) (subst (λ (v : ArrayVec ℕ). Closed n link a.marks.now v.items a.followed) (sym q) f.closed) in
     record {
       size = g.size ∙ s;
-      sound = sound_more link start from n b d b.lists s (λ k u e. f.sound k u (ap (λ (xs : List ℕ). get_or xs k 0) (sym p) ∙ e)) a.followed l' r' g;
-      closed = subst (Closed n link d.marks.now d.found.items) (sym (g.followed ∙ t)) (closed_more link from a.followed n b d s c l' r' g all);
+      sound = sound_more link start from n b d b.lists s (λ k u m. f.sound k u (ap (λ (xs : List ℕ). get_or xs k 0) (sym p) ∙ m)) a.followed l e g;
+      closed = subst (Closed n link d.marks.now d.found.items) (sym (g.followed ∙ t)) (closed_more link from a.followed n b d s c l e g all);
       begun = g.kept start (omega (arith, s)) (ap (λ (xs : List ℕ). get_or xs start 0) p ∙ f.begun);
     }
 
 -- when there is no next point, the marks are those that the start leads to
-pub follows_all : (n : ℕ) (link : ℕ → ℕ → Type 0) (start : ℕ) (a : Trail) (marks : List ℕ) → Follows n link start a → a.followed ≡ length a.found.items → marks ≡ a.marks.now → Marked n link start marks
-follows_all n link start a marks f e p =
+pub follows_all : (n : ℕ) (link : ℕ → ℕ → Type 0) (start : ℕ) (a : Trail) (marks : List ℕ) → Follows n link start a → slice_get a.found.items a.followed ≡ None → marks ≡ a.marks.now → Marked n link start marks
+follows_all n link start a marks f r p =
+    let e : a.followed ≡ length a.found.items =
+    ⊎_elim (λ (u : a.followed < length a.found.items). absurd (cc (slice_get-get_or a.found.items a.followed 0 u))) (λ (u : length a.found.items ≤ a.followed). omega (arith, a.within)) (cases_lt a.followed (length a.found.items)) in
     subst (Marked n link start) (sym p) (all_marked n link start a.marks.now a.found.items a.lists f.size f.sound (subst (Closed n link a.marks.now a.found.items) e f.closed) f.begun)
 
 -- a start beyond the last point leads to none of them, as a table of zeros says

@@ -64,6 +64,7 @@ fn visit<W: Web>(web: &W, from: usize, trail: &mut Trail<'_>)
     ensures grows { Grows (W.Web.link web.now from) trail.old trail.new }
     ensures all { (k : ℕ) → k < W.Web.size web.now → W.Web.link web.now from k → slice_index trail.new.marks.now k ≡ 1 }
 {
+    // A cursor, since `next_link` answers from any place on: an iterator would hold the same cursor in a type more.
     let mut at = 0;
     while let Some(point) = web.next_link(from, at) {
         trail.mark(point);

@@ -1,5 +1,5 @@
 // What a search has found so far, and how much of that it has followed.
-ghost use Rattle.std.specs.Prelude.{◌≡◌, ℕ, ◌+◌, ◌<◌, ◌≤◌, [], length, replicate, MatchOption, slice_index};
+ghost use Rattle.std.specs.Prelude.{◌≡◌, ℕ, ◌+◌, ◌<◌, ◌≤◌, [], length, replicate, IfSome, slice_get, slice_index};
 ghost use Rattle.arrayvec.specs.ArrayVec.{array_vec_len};
 ghost use Rattle.search.specs.Marks.{Lists};
 
@@ -48,16 +48,18 @@ impl<'a> Trail<'a> {
     {
         if self.marks[point] == 0 {
             self.marks[point] = 1;
+            // Sixteen bits, and so a cast: an array of words would take four times as long to clear for each search.
             self.found.push(point as u16);
         }
     }
 
-    // The first point found whose links were not followed; from then on they were.
+    // The first point found whose links were not followed yet; from then on they were.
     pub(crate) fn next(&mut self) -> Option<usize>
         ensures same_reference { self.new.marks.ghost_name ≡ self.old.marks.ghost_name }
         ensures marks { self.new.marks.now ≡ self.old.marks.now }
         ensures found { self.new.found ≡ self.old.found }
-        ensures next { MatchOption result ((self.old.followed ≡ array_vec_len self.old.found) × (self.new.followed ≡ self.old.followed)) (λ point. (self.old.followed < array_vec_len self.old.found) × (self.new.followed ≡ self.old.followed + 1) × (point ≡ slice_index self.old.found.items self.old.followed)) }
+        ensures next { result ≡ slice_get self.old.found.items self.old.followed }
+        ensures followed { IfSome result (λ _. self.new.followed ≡ self.old.followed + 1) }
     {
         let point = *self.found.get(self.followed)?;
         self.followed += 1;

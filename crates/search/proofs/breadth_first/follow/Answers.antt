@@ -17,14 +17,13 @@ pub loop-from-preserved : goal.loop-from-preserved
 loop-from-preserved g c =
     let w = c.args.web.now in
     let next = c.next.ensures in
-    let s = c.in-Some.ensures.next in
     let e = c.visit.ensures in
     record {
-      follows = follows_more (g.W.Web.size w) (g.W.Web.link w) c.args.start c.in-Some.from c.loop-from.trail c.next.new.self c.visit.new.trail c.loop-from.invariant.follows c.requires.within next.marks next.found s.0 s.1 s.2 e.grows e.all;
+      follows = follows_more (g.W.Web.size w) (g.W.Web.link w) c.args.start c.in-Some.from c.loop-from.trail c.next.new.self c.visit.new.trail c.loop-from.invariant.follows c.requires.within next.marks next.found (sym next.next ∙ c.in-Some.is) c.in-Some.ensures.followed e.grows e.all;
       same = e.same_reference ∙ (next.same_reference ∙ c.loop-from.invariant.same);
     }
 
 pub returns : goal.returns
 returns g c =
     let w = c.args.web.now in
-    follows_all (g.W.Web.size w) (g.W.Web.link w) c.args.start c.loop-from.trail _ c.loop-from.invariant.follows c.in_default.ensures.next.0 (search rules)
+    follows_all (g.W.Web.size w) (g.W.Web.link w) c.args.start c.loop-from.trail _ c.loop-from.invariant.follows (sym c.next.ensures.next ∙ c.in_default.is) (search rules)
