@@ -1,5 +1,5 @@
 -- One call on a part of a pile, from what the calls of the parts ensure.
-use Rattle.std.proofs.Common.{◌≡◌, ℕ, ◌+◌, ◌<◌, ◌≤◌, min, Bool, List, [], ◌∷◌, ◌++◌, length, Ok, Err, Result, refl, subst, arith}
+use Rattle.std.proofs.Common.{◌≡◌, ℕ, ◌+◌, ◌<◌, ◌≤◌, min, Bool, false, List, [], ◌∷◌, ◌++◌, length, Ok, Err, Result, refl, subst, arith}
 use Rattle.schema.specs.declared.row.Row.{Row}
 use Rattle.schema.specs.declared.faults.EnterFault.{EnterFault}
 use Rattle.schema.specs.declared.faults.EnterFault.TheVariants.{Full}
@@ -13,14 +13,34 @@ use Rattle.pile.specs.declared.request.Call.TheVariants as call
 use Rattle.pile.specs.declared.request.Look.{Look}
 use Rattle.pile.specs.declared.request.Request.{Request}
 use Rattle.pile.specs.declared.request.Sight.{Sight}
-use Rattle.pile.specs.Lives.{Sees, Entering, AtTop, Step, Moment, Life, WholeLife, withdrawn, struck, restored, seen, here, below, no_part, begun, lived}
-use Rattle.pile.specs.Plain.{Plain, Layer, Kind, fresh, trial, strike, over, top, shown_by}
+use Rattle.pile.specs.Lives.{Sees, Entering, AtTop, Common, Step, Moment, Life, WholeLife, withdrawn, struck, restored, seen, no_book, no_trial, no_strike, no_restore, here, below, no_part, begun, lived}
+use Rattle.pile.specs.Plain.{Plain, Layer, Kind, fresh, trial, strike, over, top, is_book, is_trial, is_strike}
 use Rattle.pile.specs.Strikes.{Struck, Restored}
 use Rattle.pile.specs.Trials.{trial_shows, TrialEntered}
 
 -- a call told by an equation
 pub called : {p q : Plain} {c d : Call} {a : Answer} → c ≡ d → AtTop p d a q → AtTop p c a q
 called e h = rw e h
+
+-- a call that every part has, told by an equation
+pub called_common : (p q : Plain) (c d : Call) (a : Answer) → c ≡ d → Common p d a q → Common p c a q
+called_common p q c d a e h = rw e h
+
+-- a call on a part that has none of its own for it
+pub no_own_call : (p q : Plain) (c : Call) (a : Answer) → ((k : ℕ) (row : Row) → c ≡ call.Amend k row → is_book p.lowest.book p.layers ≡ false)
+    → (c ≡ call.Withdraw → is_trial p.layers ≡ false) → ((k : ℕ) → c ≡ call.Strike k → is_strike p.layers ≡ false)
+    → ((k : ℕ) → c ≡ call.Restore k → is_strike p.layers ≡ false) → Common p c a q → AtTop p c a q
+no_own_call p q (call.Enter row) a b t s r h = h
+no_own_call p q (call.Amend k row) a b t s r h = rw (h.0, h.1) (no_book (b k row refl))
+no_own_call p q call.Withdraw a b t s r h = rw (h.0, h.1) (no_trial (t refl))
+no_own_call p q (call.Strike k) a b t s r h = rw (h.0, h.1) (no_strike (s k refl))
+no_own_call p q (call.Restore k) a b t s r h = rw (h.0, h.1) (no_restore (r k refl))
+no_own_call p q (call.Load text) a b t s r h = h
+no_own_call p q (call.Look l) a b t s r h = h
+
+-- a look at a part
+pub part_seen : (p : Plain) (s : Shown) (l : Look) (v : Sight) → s ≡ top p → Sees s l v → Common p (call.Look l) (answer.Seen v) p
+part_seen p s l v t h = seen (subst (λ (u : Shown). Sees u l v) t h)
 
 -- a row entered into a trial
 pub trial_put : (p q : Plain) (s : Shown) (own after : List Row) (row : Row) (r : Result Unit EnterFault) → s ≡ top p → q ≡ p
@@ -46,11 +66,6 @@ row_struck p q s before after k r t same h = rw same (struck (subst (λ (v : Sho
 pub row_restored : (p q : Plain) (before after : List ℕ) (k : ℕ) (r : Result Unit RestoreFault) → q ≡ p → Restored before k r after
     → AtTop (over (strike before) p) (call.Restore k) (answer.Restored r) (over (strike after) q)
 row_restored p q before after k r same h = rw same (restored h)
-
--- a look at a layer
-pub layer_seen : (p : Plain) (l : Layer) (s : Shown) (look : Look) (sight : Sight) → s ≡ top p → Sees (shown_by l s) look sight
-    → AtTop (over l p) (call.Look look) (answer.Seen sight) (over l p)
-layer_seen p l s look sight t h = seen (subst (λ (v : Shown). Sees (shown_by l v) look sight) t h)
 
 -- a call on the top part, counted from the lowest
 pub at_part : {p q : Plain} {part : ℕ} {c : Call} {a : Answer} → part ≡ length p.layers → AtTop p c a q → Step p part c a q

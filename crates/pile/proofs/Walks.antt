@@ -1,24 +1,8 @@
 -- One turn of the loops that walk over numbers that rise.
 use Rattle.std.proofs.Common.{◌≡◌, ℕ, suc, ◌+◌, ◌<◌, ◌≤◌, Bool, cond, List, length, get_or, drop, sym, ap, ◌∙◌, add-one}
 use Rattle.std.proofs.lemmas.List.{at_drop_more, at_drop_all}
-use Rattle.std.proofs.lemmas.Bool.{lt-ltb, le-ltb, le-leb, lt-leb}
-use Rattle.pile.specs.Standing.{smaller, shifted}
-
--- a smaller number is counted
-pub smaller_more : (k : ℕ) (xs : List ℕ) (i : ℕ) → i < length xs → get_or xs i 0 < k → smaller k (drop i xs) ≡ suc (smaller k (drop (i + 1) xs))
-smaller_more k xs i h l =
-    let n = smaller k (drop (i + 1) xs) in
-    at_drop_more (smaller k) xs i 0 h ∙ ap (λ (b : Bool). cond b (suc n) 0) (lt-ltb (get_or xs i 0) k l)
-
--- the first that is not smaller ends the count
-pub smaller_stop : (k : ℕ) (xs : List ℕ) (i : ℕ) → i < length xs → k ≤ get_or xs i 0 → smaller k (drop i xs) ≡ 0
-smaller_stop k xs i h l =
-    let n = smaller k (drop (i + 1) xs) in
-    at_drop_more (smaller k) xs i 0 h ∙ ap (λ (b : Bool). cond b (suc n) 0) (le-ltb (get_or xs i 0) k l)
-
--- and so does the end
-pub smaller_end : (k : ℕ) (xs : List ℕ) (i : ℕ) → length xs ≤ i → smaller k (drop i xs) ≡ 0
-smaller_end k xs i h = at_drop_all (smaller k) xs i h
+use Rattle.std.proofs.lemmas.Bool.{le-leb, lt-leb}
+use Rattle.pile.specs.Standing.{shifted}
 
 -- a number that is not above moves the place by one
 pub shifted_up : (k : ℕ) (xs : List ℕ) (i : ℕ) → i < length xs → get_or xs i 0 ≤ k → shifted k (drop i xs) ≡ shifted (k + 1) (drop (i + 1) xs)

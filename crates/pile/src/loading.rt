@@ -7,7 +7,7 @@ use crate::part::Part;
 use crate::request::{Answer, Call};
 use schema::faults::LoadFault;
 use schema::loading::admit;
-use schema::sheet::Sheet;
+use schema::row::Row;
 
 /// Loads a text, which is given back.
 pub(crate) fn load_text<P: Part>(part: &mut P, text: Vec<u8>) -> Answer
@@ -23,21 +23,17 @@ pub fn load_part<P: Part>(part: &mut P, text: &[u8]) -> Result<(), LoadFault>
     ensures { Loading (P.Part.plain part.old) text.now result (P.Part.plain part.new) }
 {
     let told = admit(&*part, text)?;
-    put_all(part, &told);
+    put_all(part, told.rows());
     Ok(())
 }
 
-// Puts in the rows of another sheet, for which there is room.
-fn put_all<P: Part, T: Sheet>(part: &mut P, from: &T)
-    requires { length (top (P.Part.plain part.old)).rows + length (T.Sheet.shows from.now).rows ≤ (top (P.Part.plain part.old)).capacity }
-    ensures { P.Part.plain part.new ≡ grown (P.Part.plain part.old) (T.Sheet.shows from.now).rows }
+// Puts in rows for which there is room. A closure would not make one of this and schema's own loop over `enter`: what
+// the two calls ensure differs, and the loops are two lines.
+fn put_all<P: Part>(part: &mut P, rows: &[Row])
+    requires { length (top (P.Part.plain part.old)).rows + length rows.now ≤ (top (P.Part.plain part.old)).capacity }
+    ensures { P.Part.plain part.new ≡ grown (P.Part.plain part.old) rows.now }
 {
-    for k in 0..from.len() {
-        if let Some(row) = from.row(k) {
-            match part.put(row) {
-                Ok(()) => {}
-                Err(_) => unreachable(),
-            }
-        }
+    for row in rows {
+        part.put(*row).unwrap();
     }
 }

@@ -1,6 +1,6 @@
 -- A text from its lines.
-use Rattle.std.proofs.Common.{◌≡◌, ℕ, suc, ◌+◌, ◌*◌, ◌<◌, ◌≤◌, List, [], ◌∷◌, ◌++◌, length, get_or, take, drop, set, sym, ap, ◌∙◌, subst, inl, inr, arith, length-drop, length-take-le, get_or-set_other, get_or-take, get_or-set_same, drop-drop, below_more}
-use Rattle.std.proofs.lemmas.List.{take-append-drop, nil_from_length}
+use Rattle.std.proofs.Common.{◌≡◌, ℕ, suc, ◌+◌, ◌*◌, ◌<◌, ◌≤◌, List, [], ◌∷◌, ◌++◌, length, get_or, take, drop, sym, refl, ap, ◌∙◌, subst, inl, inr, arith, length-append, length-drop, drop-drop, below_more}
+use Rattle.std.proofs.lemmas.List.{take-append-drop, nil_from_length, get_or_append_left, get_or_push}
 use Rattle.schema.specs.declared.row.Row.{Row}
 use Rattle.schema.specs.declared.faults.LineFault.{LineFault}
 use Rattle.schema.specs.declared.faults.TextFault.TheVariants.{Line}
@@ -15,15 +15,15 @@ pub heads_from : (text l : List ℕ) (c p n : ℕ) → 14 ≤ length text → l 
 heads_from text l c p n h e (hc, hp, hn, s) = record { long = h; c_fits = hc; p_fits = hp; n_fits = hn; first = sym e ∙ s }
 
 -- the rows read so far, and the line that comes next
-pub until_from : (text : List ℕ) (c p n i : ℕ) (rows : List Row) → Headed text c p n → i < n → RowsRead text c p rows i → Until text c p n i
-until_from text c p n i rows h l read = record {
+pub until_from : (text : List ℕ) (c p n i : ℕ) (rows : List Row) → Headed text c p n → i < n → length rows ≡ i → RowsRead text c p rows → Until text c p n i
+until_from text c p n i rows h l e read = record {
   heads = h.heads;
   few_classes = h.few_classes;
   few_arrows = h.few_arrows;
   few_rows = h.few_rows;
   long = h.long;
   within = l;
-  before = λ j b. (get_or rows j blank_row, (read j b).0, (read j b).1);
+  before = λ j b. let k : j < length rows = omega arith in (get_or rows j blank_row, (read j k).0, (read j k).1);
 }
 
 -- a fault of a row's line is one of the text
@@ -32,13 +32,15 @@ faulty_from text l c p n i f u e (out_of_form k bad) = row_form c p n i k u (rw 
 faulty_from text l c p n i f u e (unsound field r w s bad) = row_unsound c p n i field r u w (sym e ∙ s) bad
 
 -- one more row
-pub rows_more : (text : List ℕ) (c p : ℕ) (rows : List Row) (i : ℕ) (r : Row) → i < length rows → RowsRead text c p rows i
-    → (line_at text (i + 1) ≡ row_line r) × Sound c p r → RowsRead text c p (set rows i r) (i + 1)
-rows_more text c p rows i r room read here =
+pub rows_more : (text : List ℕ) (c p : ℕ) (rows : List Row) (i : ℕ) (r : Row) → length rows ≡ i → RowsRead text c p rows
+    → (line_at text (i + 1) ≡ row_line r) × Sound c p r → RowsRead text c p (rows ++ r ∷ [])
+rows_more text c p rows i r e read here =
     let Here : ℕ → Row → Type 0 = λ j x. (line_at text (j + 1) ≡ row_line x) × Sound c p x in
-    below_more (λ j. Here j (get_or (set rows i r) j blank_row)) i
-    (λ j l. subst (Here j) (sym (get_or-set_other rows i j r blank_row (λ e. omega arith))) (read j l))
-    (subst (Here i) (sym (get_or-set_same rows i r blank_row room)) here)
+    let both : (j : ℕ) → j < i + 1 → Here j (get_or (rows ++ r ∷ []) j blank_row) =
+    below_more (λ j. Here j (get_or (rows ++ r ∷ []) j blank_row)) i
+    (λ j l. let k : j < length rows = omega arith in subst (Here j) (sym (get_or_append_left rows (r ∷ []) blank_row j k)) (read j k))
+    (subst (Here i) (sym (get_or_push rows r blank_row i e)) here) in
+    λ j l. both j (omega (arith, length-append rows (r ∷ [])))
 
 -- lines of 14 bytes, one for each row
 lines_join : (rows : List Row) (bytes : List ℕ) → length bytes ≡ 14 * length rows
@@ -58,26 +60,22 @@ each_member P (x ∷ xs) each r (inl e) = subst P (sym e) (each 0 (omega arith))
 each_member P (x ∷ xs) each r (inr m) = each_member P xs (λ j l. each (suc j) (omega arith)) r m
 
 -- a text whose lines have all been read
-pub text_from : (text : List ℕ) (c p n : ℕ) (rows : List Row) → Headed text c p n → n ≤ length rows → RowsRead text c p rows n → IsText text c p (take n rows)
-text_from text c p n rows h room read =
-    let count : length (take n rows) ≡ n = length-take-le n rows room in
-    let fetch : (j : ℕ) → j < length (take n rows) → get_or (take n rows) j blank_row ≡ get_or rows j blank_row = λ j l. get_or-take n rows j blank_row (omega arith) in
-    let total : length text ≡ 14 * (n + 1) = h.long in
-    let long : length (drop 14 text) ≡ 14 * length (take n rows) = simp length-drop (omega arith) in
-    let rest : drop 14 text ≡ row_lines (take n rows) = lines_join (take n rows) (drop 14 text) long (λ j l.
+text_from : (text : List ℕ) (c p : ℕ) (rows : List Row) → Headed text c p (length rows) → RowsRead text c p rows → IsText text c p rows
+text_from text c p rows h read =
+    let total : length text ≡ 14 * (length rows + 1) = h.long in
+    let long : length (drop 14 text) ≡ 14 * length rows = simp length-drop (omega arith) in
+    let rest : drop 14 text ≡ row_lines rows = lines_join rows (drop 14 text) long (λ j l.
     let next : 14 + 14 * j ≡ 14 * (j + 1) = omega arith in
-    ap (take 14) (drop-drop (14 * j) 14 text ∙ ap (λ n. drop n text) next) ∙ (read j (omega arith)).0 ∙ ap row_line (sym (fetch j l))) in
+    ap (take 14) (drop-drop (14 * j) 14 text ∙ ap (λ n. drop n text) next) ∙ (read j l).0) in
     record {
       few_classes = h.few_classes;
       few_arrows = h.few_arrows;
-      few_rows = omega (arith, h.few_rows);
-      sound = each_member (Sound c p) (take n rows) (λ j l. subst (Sound c p) (sym (fetch j l)) (read j (omega arith)).1);
-      bytes = sym (take-append-drop 14 text) ∙ ap (λ y. y ++ drop 14 text) h.heads.first ∙ ap (λ y. head_line c p n ++ y) rest ∙ ap (λ k. head_line c p k ++ row_lines (take n rows)) (sym count);
+      few_rows = h.few_rows;
+      sound = each_member (Sound c p) rows (λ j l. (read j l).1);
+      bytes = sym (take-append-drop 14 text) ∙ ap (λ y. y ++ drop 14 text) h.heads.first ∙ ap (λ y. head_line c p (length rows) ++ y) rest;
     }
 
 -- what a sheet that was read shows
-pub read_from : (text : List ℕ) (c p n len : ℕ) (rows : List Row) → len ≡ n → Headed text c p n → (length rows ≡ 512) × RowsRead text c p rows n
-    → TextRead text (record { classes = c; arrows = p; rows = take len rows; capacity = len })
-read_from text c p n len rows e h (room, read) =
-    let few : n ≤ 512 = h.few_rows in
-    rw e (record { tells = text_from text c p n rows h (omega arith) read; full = sym (length-take-le n rows (omega arith)) })
+pub read_from : (text : List ℕ) (c p n : ℕ) (rows : List Row) → Headed text c p n → (length rows ≡ n) × RowsRead text c p rows
+    → TextRead text (record { classes = c; arrows = p; rows = rows; capacity = length rows })
+read_from text c p n rows h (e, read) = record { tells = text_from text c p rows (rw e h) read; full = refl }

@@ -60,7 +60,7 @@ pub record Headed (text : List ℕ) (c p n : ℕ) : Type 0 where
 abbrev pub blank_row : Row
 blank_row = record { letter = 0; a = 0; b = 0; n = 0 }
 
--- the first i rows are those of their lines, and sound
-abbrev pub RowsRead : List ℕ → ℕ → ℕ → List Row → ℕ → Type 0
-RowsRead text c p rows i =
-    (j : ℕ) → j < i → (line_at text (j + 1) ≡ row_line (slice_index_or rows j blank_row)) × Sound c p (slice_index_or rows j blank_row)
+-- the rows are those of their lines, and sound
+abbrev pub RowsRead : List ℕ → ℕ → ℕ → List Row → Type 0
+RowsRead text c p rows =
+    (j : ℕ) → j < length rows → (line_at text (j + 1) ≡ row_line (slice_index_or rows j blank_row)) × Sound c p (slice_index_or rows j blank_row)

@@ -2,15 +2,16 @@
 --   text_shows    what such a sheet shows; its capacity is the number of its rows
 --   TextRead      it shows what the text tells
 --   TextShown     it shows what the text tells, or nothing where the text is refused
-use Rattle.std.specs.Prelude.{◌≡◌, ℕ, List, [], length, take}
-use Rattle.std.proofs.Common.{arith, length-take}
+use Rattle.std.specs.Prelude.{◌≡◌, ℕ, List, [], length}
+use Rattle.std.proofs.Common.{arith}
+use Rattle.arrayvec.specs.ArrayVec.{array_vec_len}
 use Rattle.schema.specs.declared.faults.TextFault.{TextFault}
 use Rattle.schema.specs.declared.text_sheet.TextSheet.{TextSheet}
 use Rattle.schema.specs.Sheets.{Shown, Bounded}
 use Rattle.schema.specs.Texts.{IsText, TextFaulty}
 
 abbrev pub text_shows : TextSheet → Shown
-text_shows t = record { classes = t.classes; arrows = t.arrows; rows = take t.len t.rows; capacity = t.len }
+text_shows t = record { classes = t.classes; arrows = t.arrows; rows = t.rows.items; capacity = array_vec_len t.rows }
 
 pub record TextRead (text : List ℕ) (s : Shown) : Type 0 where
   pub tells : IsText text s.classes s.arrows s.rows
@@ -25,6 +26,6 @@ pub text_bounded : (t : TextSheet) → Bounded (text_shows t)
 text_bounded t = record {
   few_classes = omega (arith, t.few);
   few_arrows = omega (arith, t.few);
-  few_rows = omega (arith, length-take t.len t.rows);
+  few_rows = omega (arith, t.room);
   few_places = omega (arith, t.room);
 }

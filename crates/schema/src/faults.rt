@@ -10,6 +10,8 @@ ghost use Rattle.schema.specs.declared.faults.PrintFault.TheVariants.{Sheet as U
 ghost use Rattle.schema.specs.declared.faults.ReprintFault.TheVariants.{Text as Unread};
 ghost use Rattle.schema.specs.declared.faults.QuestionFault.TheVariants.{Check as QuestionCheck};
 
+use thiserror::Error;
+
 /// A refusal's number and the two places that it names, 0 where it has none.
 #[derive(Clone, Copy, PartialEq, Eq, Debug)]
 pub struct Notice {
@@ -18,104 +20,145 @@ pub struct Notice {
     pub second: u16,
 }
 
+impl Notice {
+    /// A refusal that names no place.
+    pub fn bare(number: u16) -> Notice
+        ensures { result ≡ record { number = number; first = 0; second = 0 } }
+    {
+        Notice {
+            number,
+            first: 0,
+            second: 0,
+        }
+    }
+}
+
 /// Why a book was not set up.
-#[derive(Clone, Copy, PartialEq, Eq, Debug)]
+#[derive(Clone, Copy, PartialEq, Eq, Debug, Error)]
 pub enum SetUpFault {
+    #[error("more than 64 classes or 32 arrows")]
     TooMany,
 }
 
 /// Why a row was not entered.
-#[derive(Clone, Copy, PartialEq, Eq, Debug)]
+#[derive(Clone, Copy, PartialEq, Eq, Debug, Error)]
 pub enum EnterFault {
+    #[error("the part is full")]
     Full,
 }
 
 /// Why a row was not amended.
-#[derive(Clone, Copy, PartialEq, Eq, Debug)]
+#[derive(Clone, Copy, PartialEq, Eq, Debug, Error)]
 pub enum AmendFault {
+    #[error("there is no such row")]
     NoRow,
 }
 
 /// Where a line is out of form: the first column at which no well-formed line begins alike.
-#[derive(Clone, Copy, PartialEq, Eq, Debug)]
+#[derive(Clone, Copy, PartialEq, Eq, Debug, Error)]
+#[error("line {line}, column {column} is out of form")]
 pub struct ColumnFault {
     pub line: u16,
     pub column: u16,
 }
 
 /// What is wrong with one line of a text.
-#[derive(Clone, Copy, PartialEq, Eq, Debug)]
+#[derive(Clone, Copy, PartialEq, Eq, Debug, Error)]
 pub enum LineFault {
+    #[error(transparent)]
     Form(ColumnFault),
+    #[error("line {line}, field {field} is unsound")]
     UnsoundLine { line: u16, field: u16 },
 }
 
 /// What is wrong with a text.
-#[derive(Clone, Copy, PartialEq, Eq, Debug)]
+#[derive(Clone, Copy, PartialEq, Eq, Debug, Error)]
 pub enum TextFault {
+    #[error("the text is shorter than a line")]
     TooShort,
+    #[error(transparent)]
     Line(LineFault),
+    #[error("the text has more than 64 classes, 32 arrows or 512 rows")]
     TooLarge,
+    #[error("the text is not as long as its first line says")]
     WrongLength,
 }
 
 /// Why a text was not loaded into a sheet.
-#[derive(Clone, Copy, PartialEq, Eq, Debug)]
+#[derive(Clone, Copy, PartialEq, Eq, Debug, Error)]
 pub enum LoadFault {
+    #[error(transparent)]
     Text(TextFault),
+    #[error("the text has more classes or arrows than the part")]
     MoreNames,
+    #[error("the rows do not fit")]
     NoRoom,
 }
 
 /// Why a sheet has no text: it is too large, or a row is unsound.
-#[derive(Clone, Copy, PartialEq, Eq, Debug)]
+#[derive(Clone, Copy, PartialEq, Eq, Debug, Error)]
 pub enum SheetFault {
+    #[error("more than 64 classes, 32 arrows or 512 rows")]
     OverLimits,
+    #[error("row {row}, field {field} is unsound")]
     UnsoundRow { row: u16, field: u16 },
 }
 
 /// Why the rows of a sheet cannot be judged.
-#[derive(Clone, Copy, PartialEq, Eq, Debug)]
+#[derive(Clone, Copy, PartialEq, Eq, Debug, Error)]
 pub enum CheckFault {
+    #[error(transparent)]
     Sheet(SheetFault),
+    #[error("row {row} caps an arrow that another leads to")]
     Capped { row: u16 },
 }
 
 /// Why a verdict was refused.
-#[derive(Clone, Copy, PartialEq, Eq, Debug)]
+#[derive(Clone, Copy, PartialEq, Eq, Debug, Error)]
 pub enum VerdictFault {
+    #[error(transparent)]
     Check(CheckFault),
+    #[error("the table is too short")]
     ShortTable,
 }
 
 /// Why a question was refused.
-#[derive(Clone, Copy, PartialEq, Eq, Debug)]
+#[derive(Clone, Copy, PartialEq, Eq, Debug, Error)]
 pub enum QuestionFault {
+    #[error(transparent)]
     Check(CheckFault),
+    #[error("field {field} of the asked row is unsound")]
     UnsoundAsked { field: u16 },
+    #[error("an asked count on an arrow that another leads to")]
     Uncounted,
 }
 
 /// Why a report was not written.
-#[derive(Clone, Copy, PartialEq, Eq, Debug)]
+#[derive(Clone, Copy, PartialEq, Eq, Debug, Error)]
 pub enum ReportFault {
+    #[error("the buffer is too short")]
     ShortBuffer,
 }
 
 /// Why a sheet was not printed.
-#[derive(Clone, Copy, PartialEq, Eq, Debug)]
+#[derive(Clone, Copy, PartialEq, Eq, Debug, Error)]
 pub enum PrintFault {
+    #[error(transparent)]
     Sheet(SheetFault),
+    #[error("the buffer is too short")]
     ShortBuffer,
 }
 
 /// Why a text was not read and printed again.
-#[derive(Clone, Copy, PartialEq, Eq, Debug)]
+#[derive(Clone, Copy, PartialEq, Eq, Debug, Error)]
 pub enum ReprintFault {
+    #[error(transparent)]
     Text(TextFault),
+    #[error("the buffer is too short")]
     ShortBuffer,
 }
 
+// By hand, since `#[from]` states no `from_gives` and the callers' contracts name the fault.
 impl From<ColumnFault> for LineFault {
     ghost from_gives = { λ x r. r ≡ Form x };
 
@@ -196,41 +239,41 @@ impl From<CheckFault> for QuestionFault {
     }
 }
 
-impl SetUpFault {
-    pub fn notice(&self) -> Notice
-        ensures { result ≡ set_up_notice self.now }
-    {
-        match *self {
-            SetUpFault::TooMany => bare(1),
+impl From<SetUpFault> for Notice {
+    ghost from_gives = { λ x r. r ≡ set_up_notice x };
+
+    fn from(fault: SetUpFault) -> Notice {
+        match fault {
+            SetUpFault::TooMany => Notice::bare(1),
         }
     }
 }
 
-impl EnterFault {
-    pub fn notice(&self) -> Notice
-        ensures { result ≡ enter_notice self.now }
-    {
-        match *self {
-            EnterFault::Full => bare(2),
+impl From<EnterFault> for Notice {
+    ghost from_gives = { λ x r. r ≡ enter_notice x };
+
+    fn from(fault: EnterFault) -> Notice {
+        match fault {
+            EnterFault::Full => Notice::bare(2),
         }
     }
 }
 
-impl AmendFault {
-    pub fn notice(&self) -> Notice
-        ensures { result ≡ amend_notice self.now }
-    {
-        match *self {
-            AmendFault::NoRow => bare(3),
+impl From<AmendFault> for Notice {
+    ghost from_gives = { λ x r. r ≡ amend_notice x };
+
+    fn from(fault: AmendFault) -> Notice {
+        match fault {
+            AmendFault::NoRow => Notice::bare(3),
         }
     }
 }
 
-impl LineFault {
-    pub fn notice(&self) -> Notice
-        ensures { result ≡ line_notice self.now }
-    {
-        match *self {
+impl From<LineFault> for Notice {
+    ghost from_gives = { λ x r. r ≡ line_notice x };
+
+    fn from(fault: LineFault) -> Notice {
+        match fault {
             LineFault::Form(fault) => Notice {
                 number: 9,
                 first: fault.line,
@@ -245,37 +288,37 @@ impl LineFault {
     }
 }
 
-impl TextFault {
-    pub fn notice(&self) -> Notice
-        ensures { result ≡ text_notice self.now }
-    {
-        match *self {
-            TextFault::TooShort => bare(8),
-            TextFault::Line(fault) => fault.notice(),
-            TextFault::TooLarge => bare(10),
-            TextFault::WrongLength => bare(11),
+impl From<TextFault> for Notice {
+    ghost from_gives = { λ x r. r ≡ text_notice x };
+
+    fn from(fault: TextFault) -> Notice {
+        match fault {
+            TextFault::TooShort => Notice::bare(8),
+            TextFault::Line(fault) => Notice::from(fault),
+            TextFault::TooLarge => Notice::bare(10),
+            TextFault::WrongLength => Notice::bare(11),
         }
     }
 }
 
-impl LoadFault {
-    pub fn notice(&self) -> Notice
-        ensures { result ≡ load_notice self.now }
-    {
-        match *self {
-            LoadFault::Text(fault) => fault.notice(),
-            LoadFault::MoreNames => bare(13),
-            LoadFault::NoRoom => bare(14),
+impl From<LoadFault> for Notice {
+    ghost from_gives = { λ x r. r ≡ load_notice x };
+
+    fn from(fault: LoadFault) -> Notice {
+        match fault {
+            LoadFault::Text(fault) => Notice::from(fault),
+            LoadFault::MoreNames => Notice::bare(13),
+            LoadFault::NoRoom => Notice::bare(14),
         }
     }
 }
 
-impl SheetFault {
-    pub fn notice(&self) -> Notice
-        ensures { result ≡ sheet_notice self.now }
-    {
-        match *self {
-            SheetFault::OverLimits => bare(15),
+impl From<SheetFault> for Notice {
+    ghost from_gives = { λ x r. r ≡ sheet_notice x };
+
+    fn from(fault: SheetFault) -> Notice {
+        match fault {
+            SheetFault::OverLimits => Notice::bare(15),
             SheetFault::UnsoundRow { row, field } => Notice {
                 number: 16,
                 first: row,
@@ -285,12 +328,12 @@ impl SheetFault {
     }
 }
 
-impl CheckFault {
-    pub fn notice(&self) -> Notice
-        ensures { result ≡ check_notice self.now }
-    {
-        match *self {
-            CheckFault::Sheet(fault) => fault.notice(),
+impl From<CheckFault> for Notice {
+    ghost from_gives = { λ x r. r ≡ check_notice x };
+
+    fn from(fault: CheckFault) -> Notice {
+        match fault {
+            CheckFault::Sheet(fault) => Notice::from(fault),
             CheckFault::Capped { row } => Notice {
                 number: 17,
                 first: row,
@@ -300,72 +343,61 @@ impl CheckFault {
     }
 }
 
-impl VerdictFault {
-    pub fn notice(&self) -> Notice
-        ensures { result ≡ verdict_notice self.now }
-    {
-        match *self {
-            VerdictFault::Check(fault) => fault.notice(),
-            VerdictFault::ShortTable => bare(18),
+impl From<VerdictFault> for Notice {
+    ghost from_gives = { λ x r. r ≡ verdict_notice x };
+
+    fn from(fault: VerdictFault) -> Notice {
+        match fault {
+            VerdictFault::Check(fault) => Notice::from(fault),
+            VerdictFault::ShortTable => Notice::bare(18),
         }
     }
 }
 
-impl QuestionFault {
-    pub fn notice(&self) -> Notice
-        ensures { result ≡ question_notice self.now }
-    {
-        match *self {
-            QuestionFault::Check(fault) => fault.notice(),
+impl From<QuestionFault> for Notice {
+    ghost from_gives = { λ x r. r ≡ question_notice x };
+
+    fn from(fault: QuestionFault) -> Notice {
+        match fault {
+            QuestionFault::Check(fault) => Notice::from(fault),
             QuestionFault::UnsoundAsked { field } => Notice {
                 number: 19,
                 first: field,
                 second: 0,
             },
-            QuestionFault::Uncounted => bare(20),
+            QuestionFault::Uncounted => Notice::bare(20),
         }
     }
 }
 
-impl ReportFault {
-    pub fn notice(&self) -> Notice
-        ensures { result ≡ report_notice self.now }
-    {
-        match *self {
-            ReportFault::ShortBuffer => bare(21),
+impl From<ReportFault> for Notice {
+    ghost from_gives = { λ x r. r ≡ report_notice x };
+
+    fn from(fault: ReportFault) -> Notice {
+        match fault {
+            ReportFault::ShortBuffer => Notice::bare(21),
         }
     }
 }
 
-impl PrintFault {
-    pub fn notice(&self) -> Notice
-        ensures { result ≡ print_notice self.now }
-    {
-        match *self {
-            PrintFault::Sheet(fault) => fault.notice(),
-            PrintFault::ShortBuffer => bare(21),
+impl From<PrintFault> for Notice {
+    ghost from_gives = { λ x r. r ≡ print_notice x };
+
+    fn from(fault: PrintFault) -> Notice {
+        match fault {
+            PrintFault::Sheet(fault) => Notice::from(fault),
+            PrintFault::ShortBuffer => Notice::bare(21),
         }
     }
 }
 
-impl ReprintFault {
-    pub fn notice(&self) -> Notice
-        ensures { result ≡ reprint_notice self.now }
-    {
-        match *self {
-            ReprintFault::Text(fault) => fault.notice(),
-            ReprintFault::ShortBuffer => bare(21),
-        }
-    }
-}
+impl From<ReprintFault> for Notice {
+    ghost from_gives = { λ x r. r ≡ reprint_notice x };
 
-// A refusal that names no place.
-fn bare(number: u16) -> Notice
-    ensures { result ≡ record { number = number; first = 0; second = 0 } }
-{
-    Notice {
-        number,
-        first: 0,
-        second: 0,
+    fn from(fault: ReprintFault) -> Notice {
+        match fault {
+            ReprintFault::Text(fault) => Notice::from(fault),
+            ReprintFault::ShortBuffer => Notice::bare(21),
+        }
     }
 }

@@ -4,6 +4,7 @@ ghost use Rattle.schema.specs.Loading.{Admitted, Loaded};
 ghost use Rattle.schema.specs.Sheets.{with_rows};
 
 use crate::faults::LoadFault;
+use crate::row::Row;
 use crate::sheet::Sheet;
 use crate::text_sheet::TextSheet;
 
@@ -12,7 +13,7 @@ pub fn load<S: Sheet>(sheet: &mut S, text: &[u8]) -> Result<(), LoadFault>
     ensures { Loaded (S.Sheet.shows sheet.old) text.now result (S.Sheet.shows sheet.new) }
 {
     let told = admit(&*sheet, text)?;
-    enter_all(sheet, &told);
+    enter_all(sheet, told.rows());
     Ok(())
 }
 
@@ -30,17 +31,12 @@ pub fn admit<S: Sheet>(sheet: &S, text: &[u8]) -> Result<TextSheet, LoadFault>
     Ok(told)
 }
 
-// Enters the rows of another sheet, for which there is room.
-fn enter_all<S: Sheet, T: Sheet>(sheet: &mut S, from: &T)
-    requires { length (S.Sheet.shows sheet.old).rows + length (T.Sheet.shows from.now).rows ≤ (S.Sheet.shows sheet.old).capacity }
-    ensures { S.Sheet.shows sheet.new ≡ with_rows (S.Sheet.shows sheet.old) ((S.Sheet.shows sheet.old).rows ++ (T.Sheet.shows from.now).rows) }
+// Enters rows for which there is room.
+fn enter_all<S: Sheet>(sheet: &mut S, rows: &[Row])
+    requires { length (S.Sheet.shows sheet.old).rows + length rows.now ≤ (S.Sheet.shows sheet.old).capacity }
+    ensures { S.Sheet.shows sheet.new ≡ with_rows (S.Sheet.shows sheet.old) ((S.Sheet.shows sheet.old).rows ++ rows.now) }
 {
-    for k in 0..from.len() {
-        if let Some(row) = from.row(k) {
-            match sheet.enter(row) {
-                Ok(()) => {}
-                Err(_) => unreachable(),
-            }
-        }
+    for row in rows {
+        sheet.enter(*row).unwrap();
     }
 }

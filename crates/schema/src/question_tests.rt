@@ -18,7 +18,7 @@ fn counted(rt: HostRuntime) {
     let fault = QuestionFault::UnsoundAsked { field: 2 };
     assert_eq!(rt; ask(text, b'S', 4, 0, 0), Err(fault));
     assert_eq!(rt;
-        fault.notice(),
+        Notice::from(fault),
         Notice {
             number: 19,
             first: 2,

@@ -29,7 +29,7 @@ pub fn report(text: &[u8], bytes: &mut [u8]) -> Result<usize, ReportFault>
     }
     match TextSheet::read(text) {
         Ok(sheet) => Ok(judge(&sheet, bytes)),
-        Err(fault) => Ok(refuse(bytes, fault.notice())),
+        Err(fault) => Ok(refuse(bytes, Notice::from(fault))),
     }
 }
 
@@ -43,7 +43,7 @@ fn judge<S: Sheet>(sheet: &S, bytes: &mut [u8]) -> usize
     let mut table = [0; TABLE_BYTES];
     match verdict(sheet, &mut table) {
         Ok(_) => list(bytes, &table[0..classes], &table[classes..classes + arrows]),
-        Err(fault) => refuse(bytes, fault.notice()),
+        Err(fault) => refuse(bytes, Notice::from(fault)),
     }
 }
 

@@ -1,7 +1,7 @@
 //! A row: what a schema says, in one letter and three numbers.
 
 /// One letter and three numbers; what they mean is told by the letter (see `letters`).
-#[derive(Clone, Copy, PartialEq, Eq, Debug)]
+#[derive(Clone, Copy, PartialEq, Eq, Debug, Default)]
 pub struct Row {
     pub letter: u8,
     pub a: u16,

@@ -5,8 +5,7 @@ ghost use Rattle.pile.specs.Strikes.{struck_rows};
 ghost use Rattle.pile.specs.Shown.{layer_parts};
 
 use super::Pile;
-use crate::loading::load_text;
-use crate::looks::see;
+use super::common::common_call;
 use crate::part::Part;
 use crate::request::{Answer, Call};
 use crate::strike::Strike;
@@ -47,13 +46,9 @@ impl<P: Pile + Drop> Pile for Strike<P> {
 
     fn answer(&mut self, call: Call) -> Answer {
         match call {
-            Call::Enter(row) => Answer::Entered(self.put(row)),
-            Call::Amend(k, row) => Answer::NotHere(Call::Amend(k, row)),
-            Call::Withdraw => Answer::NotHere(Call::Withdraw),
             Call::Strike(k) => Answer::Struck(self.strike(k)),
             Call::Restore(k) => Answer::Restored(self.restore(k)),
-            Call::Load(text) => load_text(self, text),
-            Call::Look(look) => Answer::Seen(see(&*self, look)),
+            call => common_call(self, call),
         }
     }
 

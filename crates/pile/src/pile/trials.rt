@@ -5,8 +5,7 @@ ghost use Rattle.pile.specs.Trials.{own_rows};
 ghost use Rattle.pile.specs.Shown.{layer_parts};
 
 use super::Pile;
-use crate::loading::load_text;
-use crate::looks::see;
+use super::common::common_call;
 use crate::part::Part;
 use crate::request::{Answer, Call};
 use crate::trial::Trial;
@@ -46,13 +45,8 @@ impl<P: Pile + Drop> Pile for Trial<P> {
 
     fn answer(&mut self, call: Call) -> Answer {
         match call {
-            Call::Enter(row) => Answer::Entered(self.put(row)),
-            Call::Amend(k, row) => Answer::NotHere(Call::Amend(k, row)),
             Call::Withdraw => Answer::Withdrawn(self.withdraw()),
-            Call::Strike(k) => Answer::NotHere(Call::Strike(k)),
-            Call::Restore(k) => Answer::NotHere(Call::Restore(k)),
-            Call::Load(text) => load_text(self, text),
-            Call::Look(look) => Answer::Seen(see(&*self, look)),
+            call => common_call(self, call),
         }
     }
 

@@ -1,7 +1,6 @@
 //! Making a strike layer, striking and restoring rows, and what it shows.
-ghost use Rattle.std.specs.Prelude.{◌≡◌, ◌+◌, ◌<◌, ◌≤◌, [], length, IfOk, IfErr, vec_len, vec_capacity};
-ghost use Rattle.std.specs.List.{insert};
-ghost use Rattle.pile.specs.Standing.{among, shifted, smaller};
+ghost use Rattle.std.specs.Prelude.{◌≡◌, ◌<◌, [], IfOk, IfErr};
+ghost use Rattle.pile.specs.Standing.{shifted};
 ghost use Rattle.pile.specs.Strikes.{Restored, Struck, strike_bounded, strike_shows, struck_rows};
 
 use super::Strike;
@@ -29,26 +28,11 @@ impl<S> Strike<S> {
         ensures restored { Restored (struck_rows self.old) k result (struck_rows self.new) }
         ensures below { self.new.below ≡ self.old.below }
     {
-        let (at, found) = self.find(k);
-        if !found {
+        let Ok(at) = self.struck.binary_search(&k) else {
             return Err(RestoreFault::NotStruck);
-        }
+        };
         self.struck.remove(at);
         Ok(())
-    }
-
-    // Where k stands or would stand among the struck numbers, and whether it does.
-    fn find(&self, k: usize) -> (usize, bool)
-        ensures place { (result.0 ≡ smaller k (struck_rows self.now)) × (result.0 ≤ length (struck_rows self.now)) }
-        ensures found { result.1 ≡ among k (struck_rows self.now) }
-    {
-        let struck = self.struck.as_slice();
-        let at = place(struck, k);
-        if at < struck.len() && struck[at] == k {
-            (at, true)
-        } else {
-            (at, false)
-        }
     }
 }
 
@@ -61,14 +45,13 @@ impl<S: Sheet> Strike<S> {
         if k >= self.below.len() {
             return Err(StrikeFault::NoSuchRow);
         }
-        let (at, found) = self.find(k);
-        if found {
+        let Err(at) = self.struck.binary_search(&k) else {
             return Err(StrikeFault::StruckAlready);
-        }
+        };
         if self.struck.len() >= MOST_STRUCK {
             return Err(StrikeFault::TooManyStruck);
         }
-        put(&mut self.struck, at, k);
+        self.struck.insert(at, k).unwrap();
         Ok(())
     }
 }
@@ -92,7 +75,7 @@ impl<S: Sheet> Sheet for Strike<S> {
 
     fn len(&self) -> usize {
         let below = self.below.len();
-        below - place(self.struck.as_slice(), below)
+        below - self.struck.partition_point(|number| *number < below)
     }
 
     fn row(&self, k: usize) -> Option<Row> {
@@ -105,34 +88,6 @@ impl<S: Sheet> Sheet for Strike<S> {
 
     fn enter(&mut self, _row: Row) -> Result<(), EnterFault> {
         Err(EnterFault::Full)
-    }
-}
-
-// How many of the numbers, which rise, are below k.
-fn place(struck: &[usize], k: usize) -> usize
-    ensures { result ≡ smaller k struck.now }
-{
-    let mut at = 0;
-    for number in struck {
-        if *number >= k {
-            return at;
-        }
-        at += 1;
-    }
-    at
-}
-
-// One number more, where memory is reserved for it.
-fn put(struck: &mut Vec<usize>, at: usize, k: usize)
-    requires within { at ≤ vec_len struck.old }
-    requires room { vec_len struck.old < vec_capacity struck.old }
-    ensures items { struck.new.items ≡ insert struck.old.items at k }
-    ensures len { vec_len struck.new ≡ vec_len struck.old + 1 }
-    ensures capacity { vec_capacity struck.old ≤ vec_capacity struck.new }
-{
-    match struck.insert(at, k) {
-        Ok(()) => {}
-        Err(_) => unreachable(),
     }
 }
 

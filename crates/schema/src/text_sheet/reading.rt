@@ -1,5 +1,6 @@
 //! Reading a text, line by line.
 ghost use Rattle.std.specs.Prelude.{◌≡◌, ◌+◌, ◌*◌, ◌≤◌, length, MatchResult};
+ghost use Rattle.arrayvec.specs.ArrayVec.{array_vec_len};
 ghost use Rattle.schema.specs.Texts.{TextFaulty, line_at};
 ghost use Rattle.schema.specs.Columns.{Headed, RowsRead};
 ghost use Rattle.schema.specs.TextSheets.{text_shows, text_bounded, TextRead, TextShown};
@@ -8,8 +9,9 @@ use super::TextSheet;
 use crate::faults::{EnterFault, TextFault};
 use crate::limits::{LINE_BYTES, MOST_ARROWS, MOST_CLASSES, MOST_ROWS};
 use crate::lines::{Header, header_line, row_line};
-use crate::row::{BLANK, Row};
+use crate::row::Row;
 use crate::sheet::Sheet;
+use arrayvec::ArrayVec;
 
 impl TextSheet {
     /// Reads a text, or says the first thing that is wrong with it.
@@ -21,7 +23,6 @@ impl TextSheet {
         Ok(TextSheet {
             classes: header.classes,
             arrows: header.arrows,
-            len: usize::from(header.rows),
             rows,
         })
     }
@@ -35,10 +36,16 @@ impl TextSheet {
             Err(_) => TextSheet {
                 classes: 0,
                 arrows: 0,
-                len: 0,
-                rows: [BLANK; MOST_ROWS],
+                rows: ArrayVec::new(),
             },
         }
+    }
+
+    /// Its rows, in their order.
+    pub fn rows(&self) -> &[Row]
+        ensures { result.now ≡ (text_shows self.now).rows }
+    {
+        self.rows.as_slice()
     }
 }
 
@@ -56,19 +63,15 @@ impl Sheet for TextSheet {
     }
 
     fn capacity(&self) -> usize {
-        self.len
+        self.rows.len()
     }
 
     fn len(&self) -> usize {
-        self.len
+        self.rows.len()
     }
 
     fn row(&self, k: usize) -> Option<Row> {
-        if k < self.len {
-            Some(self.rows[k])
-        } else {
-            None
-        }
+        self.rows.get(k).copied()
     }
 
     // A text's sheet is always full.
@@ -96,14 +99,15 @@ fn read_header(text: &[u8]) -> Result<Header, TextFault>
 }
 
 // The rows of the lines after the first.
-fn read_rows(text: &[u8], header: Header) -> Result<[Row; MOST_ROWS], TextFault>
+fn read_rows(text: &[u8], header: Header) -> Result<ArrayVec<Row, MOST_ROWS>, TextFault>
     requires { Headed text.now header.classes header.arrows header.rows }
-    ensures { MatchResult result (λ rows. (length rows ≡ 512) × RowsRead text.now header.classes header.arrows rows header.rows) (λ f. TextFaulty text.now f) }
+    ensures { MatchResult result (λ rows. (array_vec_len rows ≡ header.rows) × RowsRead text.now header.classes header.arrows rows.items) (λ f. TextFaulty text.now f) }
 {
-    let mut rows = [BLANK; MOST_ROWS];
+    let mut rows = ArrayVec::new();
     for i in 0..usize::from(header.rows) {
         let number = (i + 2) as u16;
-        rows[i] = row_line(line_at(text, i + 1), number, header.classes, header.arrows)?;
+        let row = row_line(line_at(text, i + 1), number, header.classes, header.arrows)?;
+        rows.push(row);
     }
     Ok(rows)
 }

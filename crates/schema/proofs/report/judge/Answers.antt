@@ -4,7 +4,7 @@ use Rattle.schema.proofs.report.judge.Goals as goal
 
 pub refuse-requires : goal.refuse-requires
 refuse-requires g c =
-    (verdict_printable (g.S.Sheet.shows c.args.sheet.now) _ _ c.in-Err.fault c.notice.ensures c.in-Err.ensures, omega arith)
+    (verdict_printable (g.S.Sheet.shows c.args.sheet.now) _ _ c.in-Err.fault c.from.ensures c.in-Err.ensures, omega arith)
 
 pub returns-in-Ok : goal.returns-in-Ok
 returns-in-Ok g c =
@@ -13,4 +13,4 @@ returns-in-Ok g c =
 
 pub returns-in-Err : goal.returns-in-Err
 returns-in-Err g c =
-    judged_refused (g.S.Sheet.shows c.args.sheet.now) _ _ c.in-Err.fault (omega arith) c.notice.ensures c.in-Err.ensures c.refuse.ensures
+    judged_refused (g.S.Sheet.shows c.args.sheet.now) _ _ c.in-Err.fault (omega arith) c.from.ensures c.in-Err.ensures c.refuse.ensures

@@ -7,7 +7,7 @@ use Rattle.schema.proofs.Writings.{written}
 use Rattle.schema.proofs.report.report.Goals as goal
 
 pub refuse-requires : goal.refuse-requires
-refuse-requires c = (subst Printable (sym c.notice.ensures) (text_printable c.in-Err.ensures), omega arith)
+refuse-requires c = (subst Printable (sym c.from.ensures) (text_printable c.in-Err.ensures), omega arith)
 
 pub returns-in-Ok : goal.returns-in-Ok
 returns-in-Ok c = written (text_report _ c.in-Ok.ensures.tells c.judge.ensures.is) (omega arith) c.judge.ensures.begun
@@ -15,4 +15,4 @@ returns-in-Ok c = written (text_report _ c.in-Ok.ensures.tells c.judge.ensures.i
 pub returns-in-Err : goal.returns-in-Err
 returns-in-Err c =
     let is = text_refused c.in-Err.fault c.in-Err.ensures in
-    written (subst (λ n. ReportIs c.args.text.now (notice_line n)) (sym c.notice.ensures) is) (omega arith) c.refuse.ensures
+    written (subst (λ n. ReportIs c.args.text.now (notice_line n)) (sym c.from.ensures) is) (omega arith) c.refuse.ensures

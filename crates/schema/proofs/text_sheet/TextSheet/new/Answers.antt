@@ -6,5 +6,5 @@ pub returns : goal.returns
 returns c =
     elim c.match-read.branch [
       | in-Ok w ↦ simp w.result-is (accepted _ w.in-Ok.ensures)
-      | in-Err w ↦ simp w.result-is (refused w.in-Err.field-0 w.in-Err.ensures)
+      | in-Err w ↦ simp w.result-is (rw w.new.ensures (refused w.in-Err.field-0 w.in-Err.ensures))
     ]

@@ -1,20 +1,24 @@
-use Rattle.std.proofs.Common.{◌≡◌, ℕ, List, length, vec_items, ap, ◌∙◌, arith}
-use Rattle.pile.specs.Standing.{smaller}
-use Rattle.pile.proofs.Taken.{length_unstruck}
+use Rattle.std.proofs.Common.{ltb, vec_items, arith, rules}
+use Rattle.std.proofs.lemmas.List.Sorted.{IsPartitionPoint-from_clause}
+use Rattle.pile.proofs.Taken.{length_left}
 use Rattle.pile.proofs.strike.calls.StrikeSheet.len.Goals as goal
-
--- what was counted
-counted : (n : ℕ) (xs ys : List ℕ) (m r : ℕ) → r ≡ smaller m xs → xs ≡ ys → m ≡ n → r ≡ smaller n ys
-counted n xs ys m r p q e = p ∙ ap (λ (zs : List ℕ). smaller m zs) q ∙ ap (λ (j : ℕ). smaller j ys) e
 
 pub overflow_sub-result : goal.overflow_sub-result
 overflow_sub-result g c =
-    let rows = (g.S.Sheet.shows c.args.self.now.below).rows in
     let xs = vec_items c.args.self.now.struck in
-    omega (arith, length_unstruck xs rows c.args.self.now.rising, counted (length rows) _ xs _ _ c.place.ensures c.as_slice.ensures.value c.len-below.ensures)
+    let ys = c.deref.result.now in
+    let n = c.len-below.result in
+    let left =
+    length_left xs ys (g.S.Sheet.shows c.args.self.now.below).rows n _ c.args.self.now.rising c.deref.ensures.value c.len-below.ensures c.partition_point.ensures.bound
+    (λ w. IsPartitionPoint-from_clause (λ y. ltb y n) ys _ c.partition_point.ensures.partitioned w (λ a r f k. search rules)) in
+    omega (arith, left)
 
 pub returns : goal.returns
 returns g c =
-    let rows = (g.S.Sheet.shows c.args.self.now.below).rows in
     let xs = vec_items c.args.self.now.struck in
-    omega (arith, length_unstruck xs rows c.args.self.now.rising, counted (length rows) _ xs _ _ c.place.ensures c.as_slice.ensures.value c.len-below.ensures)
+    let ys = c.deref.result.now in
+    let n = c.len-below.result in
+    let left =
+    length_left xs ys (g.S.Sheet.shows c.args.self.now.below).rows n _ c.args.self.now.rising c.deref.ensures.value c.len-below.ensures c.partition_point.ensures.bound
+    (λ w. IsPartitionPoint-from_clause (λ y. ltb y n) ys _ c.partition_point.ensures.partitioned w (λ a r f k. search rules)) in
+    omega (arith, left)
