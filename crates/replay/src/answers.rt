@@ -16,17 +16,6 @@ pub struct Told<'a> {
 #[derive(Drop)]
 pub struct Outcome<F>(pub Result<(), F>);
 
-/// A row: its letter and its three numbers.
-#[derive(Drop)]
-pub struct Line(pub Row);
-
-// The names that a verdict's table lists: classes first, then arrows.
-#[derive(Drop)]
-struct Names<'a> {
-    table: &'a [u8],
-    classes: usize,
-}
-
 impl Display for Told<'_> {
     fn fmt<W: fmt::Write>(&self, f: &mut fmt::Formatter<W>) -> fmt::Result {
         match self.answer {
@@ -68,14 +57,14 @@ fn tell<W: fmt::Write>(f: &mut fmt::Formatter<W>, sight: &Sight, classes: usize)
         Sight::Counts(classes, arrows) => write!(f, "{classes} classes, {arrows} arrows"),
         Sight::Capacity(number) | Sight::Len(number) => write!(f, "{number}"),
         Sight::RowAt(None) => f.write_str("none"),
-        Sight::RowAt(Some(row)) => Line(*row).fmt(f),
+        Sight::RowAt(Some(Row { letter, a, b, n })) => {
+            let letter = char::from(*letter);
+            write!(f, "{letter} {a} {b} {n}")
+        }
         Sight::Judged(Err(fault), _) => refused(f, *fault),
         Sight::Judged(Ok(ones), table) => {
-            let names = Names {
-                table: table.as_slice(),
-                classes,
-            };
-            write!(f, "{ones} forced empty{names}")
+            write!(f, "{ones} forced empty")?;
+            list(f, table.as_slice(), classes)
         }
         Sight::Asked(Err(fault)) => refused(f, *fault),
         Sight::Asked(Ok(true)) => f.write_str("yes"),
@@ -83,27 +72,18 @@ fn tell<W: fmt::Write>(f: &mut fmt::Formatter<W>, sight: &Sight, classes: usize)
     }
 }
 
-impl Display for Names<'_> {
-    fn fmt<W: fmt::Write>(&self, f: &mut fmt::Formatter<W>) -> fmt::Result {
-        let mut mark = ": ";
-        for (name, byte) in self.table.iter().enumerate() {
-            if *byte == 1 {
-                f.write_str(mark)?;
-                mark = ", ";
-                match name.checked_sub(self.classes) {
-                    None => write!(f, "class {name}")?,
-                    Some(arrow) => write!(f, "arrow {arrow}")?,
-                }
+// The names that a verdict's table has a 1 at: classes first, then arrows.
+fn list<W: fmt::Write>(f: &mut fmt::Formatter<W>, table: &[u8], classes: usize) -> fmt::Result {
+    let mut mark = ": ";
+    for (name, byte) in table.iter().enumerate() {
+        if *byte == 1 {
+            f.write_str(mark)?;
+            mark = ", ";
+            match name.checked_sub(classes) {
+                None => write!(f, "class {name}")?,
+                Some(arrow) => write!(f, "arrow {arrow}")?,
             }
         }
-        Ok(())
     }
-}
-
-impl Display for Line {
-    fn fmt<W: fmt::Write>(&self, f: &mut fmt::Formatter<W>) -> fmt::Result {
-        let Row { letter, a, b, n } = self.0;
-        let letter = char::from(letter);
-        write!(f, "{letter} {a} {b} {n}")
-    }
+    Ok(())
 }

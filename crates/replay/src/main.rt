@@ -30,7 +30,7 @@ fn main(rt: HostRuntime) -> anyhow::Result<ExitCode> {
         rt.print(HELP)?;
         return Ok(ExitCode::SUCCESS);
     }
-    // One byte more than a script may have is enough to tell that it is too long.
+    // One byte more than a script may have is enough to tell that it is too long. A cast, since no `From` leads from usize to u64.
     let mut bytes = Vec::new(rt.alloc());
     rt.stdin()
         .take(SCRIPT_BYTES as u64 + 1)
@@ -40,12 +40,7 @@ fn main(rt: HostRuntime) -> anyhow::Result<ExitCode> {
             replay(&rt, script)?;
             Ok(ExitCode::SUCCESS)
         }
-        Err(
-            ScriptFault {
-                puzzle: Puzzle::Memory(fault),
-                line: _,
-            },
-        ) => Err(Puzzle::Memory(fault).into()),
+        Err(ScriptFault(_, puzzle @ Puzzle::Memory(_))) => Err(puzzle.into()),
         Err(fault) => {
             eprintln!(rt; "{fault}")?;
             Ok(ExitCode::FAILURE)

@@ -24,11 +24,8 @@ pub struct Script {
 
 /// Why a script is refused: a line of it, and what is wrong there.
 #[derive(Debug, Drop, Error)]
-#[error("line {line}: {puzzle}")]
-pub struct ScriptFault {
-    pub line: usize,
-    pub puzzle: Puzzle,
-}
+#[error("line {0}: {1}")]
+pub struct ScriptFault(pub usize, pub Puzzle);
 
 // A text that is being read: the line that asked for it, and the part that loads it, or none for the lowest sheet.
 #[derive(Drop)]
@@ -52,10 +49,7 @@ struct Reader {
 /// Reads a script to its end.
 pub(crate) fn read_script(heap: Global, bytes: &[u8]) -> Result<Script, ScriptFault> {
     if bytes.len() > SCRIPT_BYTES {
-        return Err(ScriptFault {
-            line: 1,
-            puzzle: Puzzle::TooLong,
-        });
+        return Err(ScriptFault(1, Puzzle::TooLong));
     }
     let mut reader = Reader {
         heap,
@@ -69,7 +63,7 @@ pub(crate) fn read_script(heap: Global, bytes: &[u8]) -> Result<Script, ScriptFa
         reader.line = line;
         reader
             .take(words)
-            .map_err(|puzzle| ScriptFault { line, puzzle })?;
+            .map_err(|puzzle| ScriptFault(line, puzzle))?;
     }
     reader.finish()
 }
@@ -174,21 +168,15 @@ impl Reader {
             open,
         } = self;
         if let Some(opened) = open {
-            return Err(ScriptFault {
-                line: opened.line,
-                puzzle: "the text has no 'end'".into(),
-            });
+            return Err(ScriptFault(opened.line, "the text has no 'end'".into()));
         }
-        let Some(lowest) = lowest else {
-            return Err(ScriptFault {
-                line,
-                puzzle: "the script has no lowest sheet".into(),
-            });
-        };
-        Ok(Script {
-            lowest,
-            steps,
-            titles,
-        })
+        match lowest {
+            Some(lowest) => Ok(Script {
+                lowest,
+                steps,
+                titles,
+            }),
+            None => Err(ScriptFault(line, "the script has no lowest sheet".into())),
+        }
     }
 }
