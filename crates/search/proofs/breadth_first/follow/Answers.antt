@@ -1,6 +1,6 @@
 -- The start is the first point of the trail, each visit closes one more point, and at the end all are closed.
 use Rattle.std.proofs.Common.{◌≡◌, ℕ, List, length, replicate, refl, rules, ap, ◌∙◌, subst, sym}
-use Rattle.search.proofs.Trails.{follows_start, follows_more, follows_all}
+use Rattle.search.proofs.Following.{follows_start, follows_more, follows_all}
 use Rattle.search.proofs.breadth_first.follow.Goals as goal
 
 pub loop-from-init : goal.loop-from-init

@@ -1,6 +1,6 @@
 -- The marked points are led to, and the links of those that were followed lead to marked points.
 use Rattle.std.proofs.Common.{◌≡◌, ◌-◌}
-use Rattle.search.proofs.Trails.{Follows}
+use Rattle.search.proofs.Following.{Follows}
 use Rattle.search.proofs.breadth_first.follow.Given as goal
 
 abbrev pub invariant-loop-from : goal.invariant-loop-from

@@ -1,7 +1,7 @@
 -- A start beyond the last point marks none, and the marks stand at the front of the table.
 use Rattle.std.proofs.Common.{◌≡◌, ℕ, length, replicate, ap, sym, ◌∙◌, arith, length-take}
 use Rattle.std.proofs.lemmas.Slice.{drop-append-drop}
-use Rattle.search.proofs.Trails.{none_marked, marked_front}
+use Rattle.search.proofs.Following.{none_marked, marked_front}
 use Rattle.search.proofs.breadth_first.search.Goals as goal
 
 pub returns-then-start-n : goal.returns-then-start-n

@@ -1,7 +1,7 @@
 -- There is room for a point that is not marked, and with it each marked point is listed.
 use Rattle.std.proofs.Common.{◌<◌, length, sym, subst, set, arith}
 use Rattle.search.specs.Marks.{Lists}
-use Rattle.search.proofs.Trails.{room_for, lists_set}
+use Rattle.search.proofs.Marking.{room_for, lists_set}
 use Rattle.search.proofs.trail.Trail.mark.Goals as goal
 
 pub push-requires : goal.push-requires
