@@ -30,8 +30,8 @@ fn main(rt: HostRuntime) -> anyhow::Result<ExitCode> {
         rt.print(HELP)?;
         return Ok(ExitCode::SUCCESS);
     }
-    // One byte more than a script may have is enough to tell that it is too long. A cast, since no `From` leads from usize to u64.
     let mut bytes = Vec::new(rt.alloc());
+    // One byte more than a script may have tells that it is too long. A cast, since no `From` leads from usize to u64.
     rt.stdin()
         .take(SCRIPT_BYTES as u64 + 1)
         .read_to_end(&mut bytes)?;

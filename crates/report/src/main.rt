@@ -43,8 +43,8 @@ fn main(rt: HostRuntime) -> io::Result<()> {
     if first.is_some_and(|word| matches!(word.as_str(), "--help" | "-h")) {
         return rt.print(HELP);
     }
-    // A cast, since no `From` leads from usize to u64.
     let mut input = ArrayVec::<u8, INPUT_BYTES>::new();
+    // A cast, since no `From` leads from usize to u64.
     io::copy(&mut rt.stdin().take(INPUT_BYTES as u64), &mut input)?;
     let mut bytes = [0u8; REPORT_BYTES];
     let written = report(input.as_slice(), &mut bytes).unwrap();
