@@ -1,10 +1,7 @@
 -- From what the rows tell of a rule to the answer.
-use Rattle.std.proofs.Common.{◌≡◌, ℕ, ◌+◌, ◌*◌, ◌<◌, Bool, true, false, List, Result, sym, refl, subst, inl, inr, arith}
-use Rattle.std.proofs.lemmas.Bool.{true≢false}
+use Rattle.std.proofs.Common.{◌≡◌, ℕ, ◌+◌, ◌*◌, ◌<◌, Bool, List, sym, refl, subst, inl, inr, arith}
 use Rattle.schema.specs.declared.row.Row.{Row}
-use Rattle.schema.specs.declared.faults.QuestionFault.{QuestionFault}
 use Rattle.schema.specs.Rows.{Sound}
-use Rattle.schema.specs.Sheets.{Shown}
 use Rattle.schema.specs.Rules.{Rule, S, X, D, F, K, P, Q, row, arrow}
 use Rattle.schema.specs.Points.{Placed}
 use Rattle.schema.specs.Webs.{mark, ArrowLink, ArrowApart, Clashing, arr, Empty, of_end, of_arrow}
@@ -12,7 +9,7 @@ use Rattle.schema.specs.Questions.{EmptyDescription, Parted, Yes, Countable}
 use Rattle.schema.specs.Worlds.{Fulfils}
 use Rattle.schema.specs.Verdicts.{Passes, Tells}
 use Rattle.schema.specs.Truth.{Follows}
-use Rattle.schema.specs.Asked.{Uncountable, Answered, Replied, Asked}
+use Rattle.schema.specs.Asked.{Uncountable, Answered}
 use Rattle.schema.specs.Found.{TellsYes}
 use Rattle.schema.proofs.theory.Caps.{alone?}
 use Rattle.schema.proofs.theory.Deciding.{stable}

@@ -27,10 +27,10 @@ pub fn read_back<S: Sheet>(sheet: &S, bytes: &mut [u8]) -> Result<TextSheet, Pri
     ensures { ReadBack (S.Sheet.shows sheet.now) bytes.old result bytes.new }
 {
     let len = print(sheet, bytes)?;
-    match TextSheet::read(&bytes[0..len]) {
-        Ok(back) => Ok(back),
-        Err(_) => unreachable(),
-    }
+    let Ok(back) = TextSheet::read(&bytes[..len]) else {
+        unreachable();
+    };
+    Ok(back)
 }
 
 /// Reads a text and prints it: unrefused, it is the same text again.
@@ -38,11 +38,8 @@ pub fn reprint(text: &[u8], bytes: &mut [u8]) -> Result<usize, ReprintFault>
     ensures { Reprinted text.now bytes.old result bytes.new }
 {
     let sheet = TextSheet::read(text)?;
-    match print(&sheet, bytes) {
-        Ok(len) => Ok(len),
-        // A text's rows are sound and few, so that only the room can be wanting.
-        Err(_) => Err(ReprintFault::ShortBuffer),
-    }
+    // A text's rows are sound and few, so that only the room can be wanting.
+    print(&sheet, bytes).map_err(|_| ReprintFault::ShortBuffer)
 }
 
 // Writes the header and a line for each row, and answers where they end.

@@ -32,7 +32,7 @@ pub(crate) fn put_names(bytes: &mut [u8], at: usize, letter: u8, table: &[u8]) -
     end
 }
 
-// A line is put together as `lines` takes it apart.
+// The bytes of a line, put together as `lines` takes them apart.
 fn line_of(letter: u8, a: u16, b: u16, n: u16) -> [u8; LINE_BYTES]
     requires { (a ≤ 9999) × ((b ≤ 9999) × (n ≤ 9999)) }
     ensures { result ≡ line letter a b n }

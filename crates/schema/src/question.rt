@@ -38,11 +38,9 @@ fn uncountable(schema: &Schema, asked: Row) -> bool
     requires { Sound 64 32 asked }
     ensures { Tells result (Uncountable schema.now.rows.items asked) }
 {
-    if asked.letter == b'F' && asked.n >= 2 {
-        shared_arrows(schema.rows()).has(usize::from(asked.b) / 2)
-    } else {
-        false
-    }
+    asked.letter == b'F'
+        && asked.n >= 2
+        && shared_arrows(schema.rows()).has(usize::from(asked.b) / 2)
 }
 
 // Whether a schema tells what a sound row says. Class a is at point 32·a, and the mark (e, m) at 32·e + m.

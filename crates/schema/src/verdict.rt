@@ -32,15 +32,15 @@ fn judge(schema: &Schema, table: &mut [u8]) -> Result<usize, VerdictFault>
 }
 
 // Writes the byte of each class and then that of each arrow, which is empty with its tail.
-fn write_names(table: &mut [u8], classes: usize, arrows: usize, empty: &[u8])
+fn write_names(table: &mut [u8], classes: usize, arrows: usize, empty: &[u8; 129])
     requires few { (classes ≤ 64) × (arrows ≤ 32) }
     requires room { classes + arrows ≤ length table.old }
-    requires keys { 128 ≤ length empty.now }
     ensures classes { (k : ℕ) → k < classes → slice_index table.new k ≡ slice_index empty.now k }
     ensures arrows { (k : ℕ) → k < arrows → slice_index table.new (classes + k) ≡ slice_index empty.now (64 + 2 * k) }
     ensures later { drop (classes + arrows) table.new ≡ drop (classes + arrows) table.old }
 {
     table[..classes].copy_from_slice(&empty[..classes]);
+    // by a number, which the key of its tail is made from
     for arrow in 0..arrows {
         table[classes + arrow] = empty[64 + 2 * arrow];
     }

@@ -43,13 +43,9 @@ impl Book {
     pub fn amend(&mut self, k: usize, row: Row) -> Result<(), AmendFault>
         ensures { Amended (book_shows self.old) k row result (book_shows self.new) }
     {
-        match self.table.row_mut(k) {
-            Some(old) => {
-                *old = row;
-                Ok(())
-            }
-            None => Err(AmendFault::NoRow),
-        }
+        let old = self.table.row_mut(k).ok_or(AmendFault::NoRow)?;
+        *old = row;
+        Ok(())
     }
 }
 

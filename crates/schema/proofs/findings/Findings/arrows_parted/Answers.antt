@@ -29,13 +29,13 @@ returns-else-parted c =
     let hp = c.requires.0 in
     let hq = c.requires.1 in
     let not : (Clashing (ArrowLink rows) (ArrowApart rows) p q → ⊥) × (Parted rows (mark (2 * p) 1) (mark (2 * q) 1) → ⊥) =
-        elim c.if-arrows_clash.branch [
-          | then-arrows_clash w ↦ absurd (true≢false (sym w.if-arrows_clash.true ∙ sym w.value-is ∙ c.if-parted.false))
-          | else-arrows_clash w ↦ (
-              w.if-arrows_clash.ensures,
-              tells_no (w.parted.ensures (mark (2 * p) 1) (mark (2 * q) 1) (tail_placed p hp) (tail_placed q hq) (omega arith) (omega arith))
-                  (sym w.value-is ∙ c.if-parted.false),
-            )
-        ] in
+    elim c.if-arrows_clash.branch [
+      | then-arrows_clash w ↦ absurd (true≢false (sym w.if-arrows_clash.true ∙ sym w.value-is ∙ c.if-parted.false))
+      | else-arrows_clash w ↦ (
+        w.if-arrows_clash.ensures,
+        tells_no (w.parted.ensures (mark (2 * p) 1) (mark (2 * q) 1) (tail_placed p hp) (tail_placed q hq) (omega arith) (omega arith))
+            (sym w.value-is ∙ c.if-parted.false),
+      )
+    ] in
     tells_same c.parted-else-parted.result (heads_part rows p q) (heads_left rows p q not.0 not.1)
     (c.parted-else-parted.ensures (mark (2 * p + 1) 1) (mark (2 * q + 1) 1) (head_placed p hp) (head_placed q hq) (omega arith) (omega arith))

@@ -36,10 +36,10 @@ returns-else-is_empty-2 c d u h k e f =
     let from-u = reaches_from rows it.web found.links found.sound u k c.args.two f second c.marks_from-second.ensures in
     let torn = subst (λ (rs : List Row). Tells c.torn.result (TornBy descriptions_apart rs first second)) (c.rows.ensures.same ∙ c.self.view_is) c.torn.ensures in
     let filled : (EmptyDescription rows d → ⊥) × (EmptyDescription rows u → ⊥) =
-        elim c.if-is_empty.branch [
-          | then-is_empty w ↦ absurd (true≢false (sym w.if-is_empty.true ∙ sym w.value-is ∙ c.if-is_empty-2.false))
-          | else-is_empty w ↦ (w.if-is_empty.ensures d h from-d, tells_no (w.is_empty-else-is_empty.ensures u k from-u) (sym w.value-is ∙ c.if-is_empty-2.false))
-        ] in
+    elim c.if-is_empty.branch [
+      | then-is_empty w ↦ absurd (true≢false (sym w.if-is_empty.true ∙ sym w.value-is ∙ c.if-is_empty-2.false))
+      | else-is_empty w ↦ (w.if-is_empty.ensures d h from-d, tells_no (w.is_empty-else-is_empty.ensures u k from-u) (sym w.value-is ∙ c.if-is_empty-2.false))
+    ] in
     let Clash = Clashing (Link rows) (Apart rows) d u in
     tells_second c.torn.result (EmptyDescription rows u ⊎ Clash) filled.0
     (tells_second c.torn.result Clash filled.1
