@@ -1,31 +1,17 @@
 -- A pile whose top part gets rows at its end.
-use Rattle.std.proofs.Common.{◌≡◌, ℕ, ◌+◌, ◌<◌, ◌≤◌, List, [], ◌∷◌, ◌++◌, length, take, Some, Err, Result, sym, refl, ap, ◌∙◌, subst, append_assoc, arith, length-append}
-use Rattle.std.specs.List.{slice_get}
-use Rattle.std.proofs.lemmas.List.{append-nil, length-take-le, take_all}
+use Rattle.std.proofs.Common.{◌≡◌, ℕ, ◌+◌, ◌<◌, ◌≤◌, List, [], ◌∷◌, ◌++◌, length, take, Ok, Err, Result, IsOk, sym, refl, ap, ◌∙◌, subst, arith, length-append}
+use Rattle.std.proofs.lemmas.List.{append-nil, length-take-le}
 use Rattle.schema.specs.declared.row.Row.{Row}
 use Rattle.schema.specs.declared.faults.EnterFault.{EnterFault}
 use Rattle.schema.specs.declared.faults.EnterFault.TheVariants.{Full}
 use Rattle.schema.specs.declared.faults.LoadFault.{LoadFault}
 use Rattle.schema.specs.Loading.{Loaded}
 use Rattle.schema.specs.Sheets.{Shown, with_rows}
-use Rattle.schema.proofs.Members.{nth_more}
 use Rattle.pile.specs.Lives.{Entering, Loading}
-use Rattle.pile.specs.Plain.{Plain, Lowest, Layer, trial, strike, alone, layered, top, grown_from, grown}
+use Rattle.pile.specs.Plain.{Plain, Lowest, Layer, trial, strike, layered, top, grown_from, grown}
 use Rattle.pile.specs.Strikes.{strike_shows}
 use Rattle.pile.specs.Trials.{trial_shows, shown_length}
 use Rattle.pile.proofs.Shows.{more_rows}
-
--- with no rows more it is as before
-pub grown_none : (l : Lowest) (ls : List Layer) → grown_from l ls [] ≡ record { lowest = l; layers = ls }
-grown_none l [] = ap (λ (rs : List Row). alone (with_rows l.shown rs) l.book) (append-nil l.shown.rows)
-grown_none l (trial own ∷ ls) = ap {B = Plain} (λ (rs : List Row). record { lowest = l; layers = trial rs ∷ ls }) (append-nil own)
-grown_none l (strike struck ∷ ls) = refl
-
--- rows and then one row more
-grown_twice : (l : Lowest) (ls : List Layer) (xs : List Row) (r : Row) → grown (grown_from l ls xs) (r ∷ []) ≡ grown_from l ls (xs ++ r ∷ [])
-grown_twice l [] xs r = ap (λ (rs : List Row). alone (with_rows l.shown rs) l.book) (append_assoc l.shown.rows xs (r ∷ []))
-grown_twice l (trial own ∷ ls) xs r = ap {B = Plain} (λ (rs : List Row). record { lowest = l; layers = trial rs ∷ ls }) (append_assoc own xs (r ∷ []))
-grown_twice l (strike struck ∷ ls) xs r = refl
 
 -- where a part has room for rows, it shows them at its end
 pub top_grown : (l : Lowest) (ls : List Layer) (rows : List Row) → length (layered l.shown ls).rows + length rows ≤ (layered l.shown ls).capacity
@@ -53,20 +39,11 @@ grown_room p rows k l room =
     omega arith
 
 -- so that none of them is refused
-pub never_full : (p t q : Plain) (rows : List Row) (k : ℕ) (r : Row) (f : EnterFault) → t ≡ grown p (take k rows) → k < length rows
-    → length (top p).rows + length rows ≤ (top p).capacity → Entering t r (Err f) q → ⊥
-never_full p t q rows k r Full e l room h =
-    let open-yet = subst (λ (x : Plain). length (top x).rows < (top x).capacity) (sym e) (grown_room p rows k l room) in omega (arith, h.0)
-
--- one row more of the rows
-pub put_more : (p t q : Plain) (rows : List Row) (k : ℕ) (r : Row) → t ≡ grown p (take k rows) → k < length rows → Some r ≡ slice_get rows k → q ≡ grown t (r ∷ [])
-    → q ≡ grown p (take (k + 1) rows)
-put_more p t q rows k r e l n h =
-    h ∙ ap (λ (x : Plain). grown x (r ∷ [])) e ∙ grown_twice p.lowest p.layers (take k rows) r ∙ ap (grown p) (sym (nth_more rows k r l n))
-
--- all of the rows
-pub put_whole : (p t : Plain) (rows : List Row) (k : ℕ) → t ≡ grown p (take k rows) → length rows ≤ k → t ≡ grown p rows
-put_whole p t rows k e l = e ∙ ap (grown p) (take_all k rows l)
+pub put_fits : (p t q : Plain) (rows : List Row) (k : ℕ) (r : Row) (o : Result Unit EnterFault) → t ≡ grown p (take k rows) → k < length rows
+    → length (top p).rows + length rows ≤ (top p).capacity → Entering t r o q → IsOk o
+put_fits p t q rows k r (Ok u) e l room h = refl
+put_fits p t q rows k r (Err Full) e l room h =
+    let open-yet = subst (λ (x : Plain). length (top x).rows < (top x).capacity) (sym e) (grown_room p rows k l room) in absurd (omega (arith, h.0))
 
 -- a text that is not admitted leaves the pile as it was
 pub load_barred : (p : Plain) (s : Shown) (text : List ℕ) (f g : LoadFault) (r : Result Unit LoadFault) → s ≡ top p → r ≡ Err g → g ≡ f → Loaded s text (Err f) s → Loading p text r p

@@ -5,4 +5,3 @@ pub mod Shows
 pub mod Steps
 pub mod Taken
 pub mod Truly
-pub mod Walks

@@ -1,8 +1,11 @@
 -- Numbers that rise: where one stands, and that they still rise with one more or one less.
-use Rattle.std.proofs.Common.{◌≡◌, ℕ, ◌<◌, ◌≤◌, Bool, true, false, ◌&&◌, ◌||◌, eqb, ltb, List, [], ◌∷◌, length, get_or, sym, refl, ap, ◌∙◌, subst, ⊎_elim, suc-le-suc, zero-le, le_of_suc-le-suc, not-suc-le-zero, arith}
+use Rattle.std.proofs.Common.{◌≡◌, ℕ, zero, suc, ◌<◌, ◌≤◌, Bool, true, false, cond, ◌&&◌, eqb, ltb, List, [], ◌∷◌, length, Ok, Err, get_or, sym, refl, ap, ◌∙◌, subst, ⊎_elim, suc-le-suc, zero-le, le_of_suc-le-suc, not-suc-le-zero, arith}
 use borrow.Author.Tests.{clash}
 use Rattle.std.specs.List.{insert, remove}
-use Rattle.std.proofs.lemmas.Bool.{ltb-true, ltb-false, eqb-true, lt-ltb, eq-eqb, ne_eqb, and_parts, and_from, or_from, or_left, or_right, or_parts, or_cases, both_ways, cases_Bool, cases_order}
+use Rattle.std.specs.List.Sorted.{IsBinarySearchResult, IsPartitionPoint, IsPartitionedBy}
+use Rattle.std.specs.Ordering.{nat_cmp}
+use Rattle.std.proofs.lemmas.List.Sorted.{searched, IsPartitionedBy-ltb, IsNonDecreasingBy-from_default}
+use Rattle.std.proofs.lemmas.Bool.{ltb-true, ltb-false, lt-ltb, le-ltb, eq-eqb, ne_eqb, and_parts, and_from, or_from, or_left, or_right, or_parts, both_ways, cases_Bool, cases_order}
 use Rattle.pile.specs.Standing.{among, above, rises, adds, drops, smaller}
 
 -- a number that is not above the lowest is not among them
@@ -24,52 +27,75 @@ smaller_none n x (y ∷ ys) h a =
     (λ (e : ltb y n ≡ false). rw e)
     (cases_Bool (ltb y n))
 
--- the place of a number is within the list
-pub smaller_le : (k : ℕ) (xs : List ℕ) → smaller k xs ≤ length xs
-smaller_le k [] = omega arith
-smaller_le k (x ∷ xs) =
-    ⊎_elim (λ (e : ltb x k ≡ true). rw e (suc-le-suc (smaller_le k xs))) (λ (e : ltb x k ≡ false). rw e zero-le) (cases_Bool (ltb x k))
+-- each of the numbers is above the lowest
+above_at : (x : ℕ) (xs : List ℕ) → above x xs ≡ true → (i : ℕ) → i < length xs → x ≤ get_or xs i 0
+above_at x [] a i l = absurd (not-suc-le-zero l)
+above_at x (y ∷ ys) a zero l = let m : x < y = ltb-true x y (and_parts (ltb x y) (above x ys) a).0 in omega arith
+above_at x (y ∷ ys) a (suc i) l = above_at x ys (and_parts (ltb x y) (above x ys) a).1 i (le_of_suc-le-suc l)
 
--- put in at its place, a number is added
-pub inserted_is : (k : ℕ) (xs : List ℕ) → insert xs (smaller k xs) k ≡ adds k xs
-inserted_is k [] = refl
-inserted_is k (x ∷ xs) =
-    ⊎_elim
-    (λ (e : ltb x k ≡ true). rw e (ap {B = List ℕ} (λ ys. x ∷ ys) (inserted_is k xs)))
-    (λ (e : ltb x k ≡ false). rw e)
-    (cases_Bool (ltb x k))
+-- none of them is above a later one
+ordered : (xs : List ℕ) → rises xs ≡ true → (i j : ℕ) → i ≤ j → j < length xs → get_or xs i 0 ≤ get_or xs j 0
+ordered [] r i j h l = absurd (not-suc-le-zero l)
+ordered (x ∷ xs) r zero zero h l = omega arith
+ordered (x ∷ xs) r zero (suc j) h l = above_at x xs (and_parts (above x xs) (rises xs) r).0 j (le_of_suc-le-suc l)
+ordered (x ∷ xs) r (suc i) zero h l = absurd (not-suc-le-zero h)
+ordered (x ∷ xs) r (suc i) (suc j) h l = ordered xs (and_parts (above x xs) (rises xs) r).1 i j (le_of_suc-le-suc h) (le_of_suc-le-suc l)
 
--- a number that stands at its place is among them
-place_found : (k d : ℕ) (xs : List ℕ) → smaller k xs < length xs → get_or xs (smaller k xs) d ≡ k → among k xs ≡ true
-place_found k d [] h e = absurd (not-suc-le-zero h)
-place_found k d (x ∷ xs) h e =
-    ⊎_elim
-    (λ (b : ltb x k ≡ true). or_right (eqb k x) (among k xs) (place_found k d xs (le_of_suc-le-suc (rw b at h)) (rw b at e)))
-    (λ (b : ltb x k ≡ false). let f : x ≡ k = rw b at e in or_left (eqb k x) (among k xs) (eq-eqb k x (sym f)))
-    (cases_Bool (ltb x k))
+-- the place up to which the numbers are smaller
+smaller_up_to : (k i : ℕ) (xs : List ℕ) → i ≤ length xs → ((j : ℕ) → j < i → get_or xs j 0 < k) → ((j : ℕ) → i ≤ j → j < length xs → k ≤ get_or xs j 0) → i ≡ smaller k xs
+smaller_up_to k zero [] w b a = refl
+smaller_up_to k (suc i) [] w b a = absurd (not-suc-le-zero w)
+smaller_up_to k zero (x ∷ xs) w b a = sym (ap (λ (t : Bool). cond t (suc (smaller k xs)) 0) (le-ltb x k (a zero zero-le (suc-le-suc zero-le))))
+smaller_up_to k (suc i) (x ∷ xs) w b a =
+    let e : i ≡ smaller k xs = smaller_up_to k i xs (le_of_suc-le-suc w) (λ j h. b (suc j) (suc-le-suc h)) (λ j h l. a (suc j) (suc-le-suc h) (suc-le-suc l)) in
+    ap suc e ∙ sym (ap (λ (t : Bool). cond t (suc (smaller k xs)) 0) (lt-ltb x k (b zero (suc-le-suc zero-le))))
 
--- where the numbers rise, one that does not is not
-place_missed : (k d : ℕ) (xs : List ℕ) → rises xs ≡ true → (smaller k xs < length xs → get_or xs (smaller k xs) d ≡ k → ⊥) → among k xs ≡ false
-place_missed k d [] r h = refl
-place_missed k d (x ∷ xs) r h =
+-- a number that stands at a place is among them, and taking out that place drops it
+stands : (k i : ℕ) (xs : List ℕ) → rises xs ≡ true → i < length xs → get_or xs i 0 ≡ k → (among k xs ≡ true) × (remove xs i ≡ drops k xs)
+stands k i [] r l e = absurd (not-suc-le-zero l)
+stands k zero (x ∷ xs) r l e = (or_left (eqb k x) (among k xs) (eq-eqb k x (sym e)), sym (ap (λ (t : Bool). cond t xs (x ∷ drops k xs)) (eq-eqb x k e)))
+stands k (suc i) (x ∷ xs) r l e =
     let p : (above x xs ≡ true) × (rises xs ≡ true) = and_parts (above x xs) (rises xs) r in
-    ⊎_elim
-    (λ (b : ltb x k ≡ true).
-    let l : x < k = ltb-true x k b in
-    let m : smaller k xs < length xs → get_or xs (smaller k xs) d ≡ k → ⊥ = λ u v. (rw b at h) (suc-le-suc u) v in
-    or_from (eqb k x) (among k xs) (ne_eqb k x (λ e. omega arith)) (place_missed k d xs p.1 m))
-    (λ (b : ltb x k ≡ false).
-    let o : k ≤ x = ltb-false x k b in
-    or_from (eqb k x) (among k xs) (ne_eqb k x (λ e. (rw b at h) (suc-le-suc zero-le) (sym e))) (above_not k x xs o p.0))
-    (cases_Bool (ltb x k))
+    let w : (among k xs ≡ true) × (remove xs i ≡ drops k xs) = stands k i xs p.1 (le_of_suc-le-suc l) e in
+    let n : eqb x k ≡ false = ne_eqb x k (λ q. both_ways (among k xs) (above_not k x xs (omega arith) p.0) w.0) in
+    (or_right (eqb k x) (among k xs) w.0, ap {B = List ℕ} (λ ys. x ∷ ys) w.1 ∙ sym (ap (λ (t : Bool). cond t xs (x ∷ drops k xs)) n))
 
--- the same at a place that was counted
-pub found_at : (k at : ℕ) (xs : List ℕ) → at ≡ smaller k xs → at < length xs → get_or xs at 0 ≡ k → among k xs ≡ true
-found_at k at xs p h e = place_found k 0 xs (subst (λ (j : ℕ). j < length xs) p h) (subst (λ (j : ℕ). get_or xs j 0 ≡ k) p e)
+-- between the smaller and the larger ones a number is missing, and put in there it is added
+missing : (k i : ℕ) (xs : List ℕ) → i ≤ length xs → ((j : ℕ) → j < i → get_or xs j 0 < k) → ((j : ℕ) → i ≤ j → j < length xs → k < get_or xs j 0) → (among k xs ≡ false) × (insert xs i k ≡ adds k xs)
+missing k zero [] w b a = (refl, refl)
+missing k (suc i) [] w b a = absurd (not-suc-le-zero w)
+missing k zero (x ∷ xs) w b a =
+    let l : k < x = a zero zero-le (suc-le-suc zero-le) in
+    let rest : among k xs ≡ false = (missing k zero xs zero-le (λ j h. absurd (not-suc-le-zero h)) (λ j h m. a (suc j) zero-le (suc-le-suc m))).0 in
+    (or_from (eqb k x) (among k xs) (ne_eqb k x (λ e. omega arith)) rest, sym (ap (λ (t : Bool). cond t (x ∷ adds k xs) (k ∷ x ∷ xs)) (le-ltb x k (omega arith))))
+missing k (suc i) (x ∷ xs) w b a =
+    let l : x < k = b zero (suc-le-suc zero-le) in
+    let m : (among k xs ≡ false) × (insert xs i k ≡ adds k xs) = missing k i xs (le_of_suc-le-suc w) (λ j h. b (suc j) (suc-le-suc h)) (λ j h n. a (suc j) (suc-le-suc h) (suc-le-suc n)) in
+    (or_from (eqb k x) (among k xs) (ne_eqb k x (λ e. omega arith)) m.0, ap {B = List ℕ} (λ ys. x ∷ ys) m.1 ∙ sym (ap (λ (t : Bool). cond t (x ∷ adds k xs) (k ∷ x ∷ xs)) (lt-ltb x k l)))
 
--- and where it is not found there
-pub missed_at : (k at : ℕ) (xs : List ℕ) → at ≡ smaller k xs → (at < length xs → get_or xs at 0 ≡ k → ⊥) → rises xs ≡ true → among k xs ≡ false
-missed_at k at xs p h r = place_missed k 0 xs r (subst (λ (j : ℕ). j < length xs → get_or xs j 0 ≡ k → ⊥) p h)
+-- what a binary search that finds a number tells
+pub sought : (k i : ℕ) (xs ys : List ℕ) → rises xs ≡ true → ys ≡ xs → IsBinarySearchResult (λ y. nat_cmp y k) ys (Ok i)
+    → (i < length xs) × (among k xs ≡ true) × (remove xs i ≡ drops k xs)
+sought k i xs ys up e h =
+    let s = searched xs k (Ok i) (subst (λ (zs : List ℕ). IsBinarySearchResult (λ y. nat_cmp y k) zs (Ok i)) e h) (ordered xs up) in
+    let t = stands k i xs up s.0 s.1 in
+    (s.0, t.0, t.1)
+
+-- and one that does not
+pub missed : (k i : ℕ) (xs ys : List ℕ) → rises xs ≡ true → ys ≡ xs → IsBinarySearchResult (λ y. nat_cmp y k) ys (Err i)
+    → (i ≤ length xs) × (among k xs ≡ false) × (insert xs i k ≡ adds k xs)
+missed k i xs ys up e h =
+    let s = searched xs k (Err i) (subst (λ (zs : List ℕ). IsBinarySearchResult (λ y. nat_cmp y k) zs (Err i)) e h) (ordered xs up) in
+    let t = missing k i xs s.0 s.1 s.2 in
+    (s.0, t.0, t.1)
+
+-- the place that parts the numbers below k from the others
+pub parted : (k i : ℕ) (xs : List ℕ) → rises xs ≡ true → i ≤ length xs
+    → (IsPartitionedBy (λ y. ltb y k) xs → IsPartitionPoint (λ y. ltb y k ≡ true) (λ y. ltb y k ≡ false) xs i) → i ≡ smaller k xs
+parted k i xs up w h =
+    let parts = IsPartitionedBy-ltb (λ y. y) xs k (IsNonDecreasingBy-from_default (λ y. y) xs 0 (ordered xs up)) in
+    let p = h parts in
+    smaller_up_to k i xs w (λ j l. ltb-true (get_or xs j 0) k (p.0 j 0 zero-le l)) (λ j l m. ltb-false (get_or xs j 0) k (p.1 j 0 l m))
 
 -- what is above a number is above a lower one
 above_less : (k x : ℕ) (xs : List ℕ) → k ≤ x → above x xs ≡ true → above k xs ≡ true
@@ -101,25 +127,6 @@ rises_adds k (x ∷ xs) r n =
     let o : k ≤ x = ltb-false x k b in
     let l : k < x = ⊎_elim (λ (e : k ≡ x). absurd (clash (sym q.0 ∙ eq-eqb k x e))) (⊎_elim (λ (u : k < x). u) (λ (u : x < k). absurd (omega arith))) (cases_order k x) in
     rw b (and_from (ltb k x && above k xs) (above x xs && rises xs) (and_from (ltb k x) (above k xs) (lt-ltb k x l) (above_less k x xs o p.0)) r))
-    (cases_Bool (ltb x k))
-
--- a number among them stands at its place, and taking out that place drops it
-pub standing : (k : ℕ) (xs : List ℕ) → rises xs ≡ true → among k xs ≡ true → (smaller k xs < length xs) × (remove xs (smaller k xs) ≡ drops k xs)
-standing k [] r e = absurd (clash e)
-standing k (x ∷ xs) r e =
-    let p : (above x xs ≡ true) × (rises xs ≡ true) = and_parts (above x xs) (rises xs) r in
-    ⊎_elim
-    (λ (b : ltb x k ≡ true).
-    let l : x < k = ltb-true x k b in
-    let n : eqb k x ≡ false = ne_eqb k x (λ q. omega arith) in
-    let m : eqb x k ≡ false = ne_eqb x k (λ q. omega arith) in
-    let i : (smaller k xs < length xs) × (remove xs (smaller k xs) ≡ drops k xs) = standing k xs p.1 (sym (ap (λ (t : Bool). t || among k xs) n) ∙ e) in
-    rw (b, m) (suc-le-suc i.0, ap {B = List ℕ} (λ ys. x ∷ ys) i.1))
-    (λ (b : ltb x k ≡ false).
-    let o : k ≤ x = ltb-false x k b in
-    let q : k ≡ x = ⊎_elim (λ (u : eqb k x ≡ true). eqb-true k x u) (λ (u : among k xs ≡ true). absurd (both_ways (among k xs) (above_not k x xs o p.0) u)) (or_cases (eqb k x) (among k xs) e) in
-    let m : eqb x k ≡ true = eq-eqb x k (sym q) in
-    rw (b, m) (suc-le-suc zero-le, refl))
     (cases_Bool (ltb x k))
 
 -- one number less keeps them above

@@ -1,10 +1,14 @@
 -- What a trial layer shows, row by row, and what one row more does to it.
-use Rattle.std.proofs.Common.{◌≡◌, ℕ, zero, suc, ◌+◌, ◌-◌, ◌<◌, ◌≤◌, min, List, [], ◌∷◌, ◌++◌, length, take, sym, refl, ap, ◌∙◌, append_assoc, le_of_suc-le-suc, not-suc-le-zero, arith, length-append, length-take, take_all}
+use Rattle.std.proofs.Common.{◌≡◌, ℕ, zero, suc, ◌+◌, ◌-◌, ◌<◌, ◌≤◌, min, List, [], ◌∷◌, ◌++◌, length, take, Ok, Err, Result, sym, refl, ap, ◌∙◌, append_assoc, le_of_suc-le-suc, not-suc-le-zero, arith, length-append, length-take, take_all}
 use native.Mathlib.Nat.{suc-sub-suc, sub-zero}
 use Rattle.std.specs.List.{slice_get}
 use Rattle.std.proofs.lemmas.Option.{slice_get_past}
 use Rattle.schema.specs.declared.row.Row.{Row}
-use Rattle.schema.specs.Sheets.{Shown, with_rows}
+use Rattle.schema.specs.declared.faults.EnterFault.{EnterFault}
+use Rattle.schema.specs.declared.faults.EnterFault.TheVariants.{Full}
+use Rattle.schema.specs.Sheets.{Shown, Entered, with_rows}
+use Rattle.pile.specs.Layers.{LayerEntered}
+use Rattle.pile.specs.Plain.{Layer, trial, strike, shown_by}
 use Rattle.pile.specs.Trials.{trial_shows, shown_length}
 
 -- the first n elements are those of the list
@@ -56,3 +60,9 @@ pub trial_entered : (s : Shown) (own : List Row) (row : Row) (after : List Row) 
     → trial_shows s after ≡ with_rows (trial_shows s own) ((trial_shows s own).rows ++ row ∷ [])
 trial_entered s own row after p room =
     ap (trial_shows s) p ∙ ap (with_rows (trial_shows s own)) (more_rows 65535 s.rows own (row ∷ []) (omega (arith, shown_length 65535 s.rows own)))
+
+-- the same of any layer
+pub shown_entered : (l m : Layer) (s : Shown) (row : Row) (r : Result Unit EnterFault) → LayerEntered l s row r m → Entered (shown_by l s) row r (shown_by m s)
+shown_entered (trial own) m s row (Ok u) h = (h.0, ap (λ (l : Layer). shown_by l s) h.1 ∙ trial_entered s own row (own ++ row ∷ []) refl h.0)
+shown_entered (strike struck) m s row (Ok u) h = absurd (omega (arith, h.0))
+shown_entered l m s row (Err Full) h = (h.0, ap (λ (l : Layer). shown_by l s) h.1)

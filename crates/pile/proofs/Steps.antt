@@ -1,10 +1,9 @@
 -- One call on a part of a pile, from what the calls of the parts ensure.
-use Rattle.std.proofs.Common.{◌≡◌, ℕ, ◌+◌, ◌<◌, ◌≤◌, min, Bool, List, [], ◌∷◌, ◌++◌, length, Ok, Err, Result, refl, subst, arith}
+use Rattle.std.proofs.Common.{◌≡◌, ℕ, ◌+◌, ◌<◌, ◌≤◌, min, Bool, false, List, [], ◌∷◌, ◌++◌, length, Ok, Err, Result, refl, subst, arith}
 use Rattle.schema.specs.declared.row.Row.{Row}
 use Rattle.schema.specs.declared.faults.EnterFault.{EnterFault}
 use Rattle.schema.specs.declared.faults.EnterFault.TheVariants.{Full}
 use Rattle.schema.specs.Sheets.{Shown}
-use Rattle.pile.specs.declared.faults.RestoreFault.{RestoreFault}
 use Rattle.pile.specs.declared.faults.StrikeFault.{StrikeFault}
 use Rattle.pile.specs.declared.request.Answer.{Answer}
 use Rattle.pile.specs.declared.request.Answer.TheVariants as answer
@@ -13,44 +12,74 @@ use Rattle.pile.specs.declared.request.Call.TheVariants as call
 use Rattle.pile.specs.declared.request.Look.{Look}
 use Rattle.pile.specs.declared.request.Request.{Request}
 use Rattle.pile.specs.declared.request.Sight.{Sight}
-use Rattle.pile.specs.Lives.{Sees, Entering, AtTop, Step, Moment, Life, WholeLife, withdrawn, struck, restored, seen, here, below, no_part, begun, lived}
-use Rattle.pile.specs.Plain.{Plain, Layer, Kind, fresh, trial, strike, over, top, shown_by}
-use Rattle.pile.specs.Strikes.{Struck, Restored}
-use Rattle.pile.specs.Trials.{trial_shows, TrialEntered}
+use Rattle.pile.specs.Layers.{LayerEntered, is_own}
+use Rattle.pile.specs.Lives.{Sees, Entering, AtTop, Common, Step, Moment, Life, WholeLife, withdrawn, struck, seen, no_book, no_trial, no_strike, no_restore, here, below, no_part, begun, lived}
+use Rattle.pile.specs.Plain.{Plain, Layer, Kind, fresh, trial, strike, over, top, shown_by, is_book, is_trial, is_strike}
+use Rattle.pile.specs.Strikes.{Struck}
 
 -- a call told by an equation
 pub called : {p q : Plain} {c d : Call} {a : Answer} → c ≡ d → AtTop p d a q → AtTop p c a q
 called e h = rw e h
 
--- a row entered into a trial
-pub trial_put : (p q : Plain) (s : Shown) (own after : List Row) (row : Row) (r : Result Unit EnterFault) → s ≡ top p → q ≡ p
-    → TrialEntered s own row r after → Entering (over (trial own) p) row r (over (trial after) q)
-trial_put p q s own after row (Ok u) t same h =
-    let k = subst (λ (v : Shown). length (trial_shows v own).rows < (trial_shows v own).capacity) t h.0 in
+-- a call that every part has, told by an equation
+pub called_common : (p q : Plain) (c d : Call) (a : Answer) → c ≡ d → Common p d a q → Common p c a q
+called_common p q c d a e h = rw e h
+
+-- a call on a part that has none of its own for it
+pub no_own_call : (p q : Plain) (c : Call) (a : Answer) → ((k : ℕ) (row : Row) → c ≡ call.Amend k row → is_book p.lowest.book p.layers ≡ false)
+    → (c ≡ call.Withdraw → is_trial p.layers ≡ false) → ((k : ℕ) → c ≡ call.Strike k → is_strike p.layers ≡ false)
+    → ((k : ℕ) → c ≡ call.Restore k → is_strike p.layers ≡ false) → Common p c a q → AtTop p c a q
+no_own_call p q (call.Enter row) a b t s r h = h
+no_own_call p q (call.Amend k row) a b t s r h = rw (h.0, h.1) (no_book (b k row refl))
+no_own_call p q call.Withdraw a b t s r h = rw (h.0, h.1) (no_trial (t refl))
+no_own_call p q (call.Strike k) a b t s r h = rw (h.0, h.1) (no_strike (s k refl))
+no_own_call p q (call.Restore k) a b t s r h = rw (h.0, h.1) (no_restore (r k refl))
+no_own_call p q (call.Load text) a b t s r h = h
+no_own_call p q (call.Look l) a b t s r h = h
+
+-- a look at a part
+pub part_seen : (p : Plain) (s : Shown) (l : Look) (v : Sight) → s ≡ top p → Sees s l v → Common p (call.Look l) (answer.Seen v) p
+part_seen p s l v t h = seen (subst (λ (u : Shown). Sees u l v) t h)
+
+-- a call that a layer has none of its own for: the part answers as every part does
+no_trial_own : (l : Layer) (ls : List Layer) → is_own l call.Withdraw ≡ false → is_trial (l ∷ ls) ≡ false
+no_trial_own (trial own) ls h = h
+no_trial_own (strike numbers) ls h = refl
+
+no_strike_own : (l : Layer) (ls : List Layer) (k : ℕ) → is_own l (call.Strike k) ≡ false → is_strike (l ∷ ls) ≡ false
+no_strike_own (trial own) ls k h = refl
+no_strike_own (strike numbers) ls k h = h
+
+no_restore_own : (l : Layer) (ls : List Layer) (k : ℕ) → is_own l (call.Restore k) ≡ false → is_strike (l ∷ ls) ≡ false
+no_restore_own (trial own) ls k h = refl
+no_restore_own (strike numbers) ls k h = h
+
+pub not_own : (l m : Layer) (p q r : Plain) (c d : Call) (a : Answer) → (is_own l c ≡ false) × (d ≡ c) × (m ≡ l) → q ≡ p → Common (over m q) d a r → AtTop (over l p) c a r
+not_own l m p q r c d a h same told =
+    let F : Call → Type 0 = λ x. is_own l x ≡ false in
+    no_own_call (over l p) r c a (λ k row e. refl) (λ e. no_trial_own l p.layers (subst F e h.0)) (λ k e. no_strike_own l p.layers k (subst F e h.0))
+    (λ k e. no_restore_own l p.layers k (subst F e h.0))
+    (subst (λ (x : Plain). Common (over l x) c a r) same (subst (λ (x : Layer). Common (over x q) c a r) h.2 (subst (λ (x : Call). Common (over m q) x a r) h.1 told)))
+
+-- a row entered into a layer
+pub layer_put : (p q : Plain) (s : Shown) (l m : Layer) (row : Row) (r : Result Unit EnterFault) → s ≡ top p → q ≡ p
+    → LayerEntered l s row r m → Entering (over l p) row r (over m q)
+layer_put p q s l m row (Ok u) t same h =
+    let k = subst (λ (v : Shown). length (shown_by l v).rows < (shown_by l v).capacity) t h.0 in
     rw (same, h.1) (k, refl)
-trial_put p q s own after row (Err Full) t same h =
-    let k = subst (λ (v : Shown). (trial_shows v own).capacity ≤ length (trial_shows v own).rows) t h.0 in
+layer_put p q s l m row (Err Full) t same h =
+    let k = subst (λ (v : Shown). (shown_by l v).capacity ≤ length (shown_by l v).rows) t h.0 in
     rw (same, h.1) (k, refl)
 
 -- a trial's rows withdrawn
-pub trial_withdrawn : (p q : Plain) (own after : List Row) (n : ℕ) → n ≡ length own → after ≡ [] → q ≡ p
-    → AtTop (over (trial own) p) call.Withdraw (answer.Withdrawn n) (over (trial after) q)
-trial_withdrawn p q own after n e f same = rw (e, f, same) withdrawn
+pub trial_withdrawn : (p : Plain) (own after : List Row) (n : ℕ) → n ≡ length own → after ≡ []
+    → AtTop (over (trial own) p) call.Withdraw (answer.Withdrawn n) (over (trial after) p)
+trial_withdrawn p own after n e f = rw (e, f) withdrawn
 
 -- a row struck
-pub row_struck : (p q : Plain) (s : Shown) (before after : List ℕ) (k : ℕ) (r : Result Unit StrikeFault) → s ≡ top p → q ≡ p → Struck s before k r after
-    → AtTop (over (strike before) p) (call.Strike k) (answer.Struck r) (over (strike after) q)
-row_struck p q s before after k r t same h = rw same (struck (subst (λ (v : Shown). Struck v before k r after) t h))
-
--- a row restored
-pub row_restored : (p q : Plain) (before after : List ℕ) (k : ℕ) (r : Result Unit RestoreFault) → q ≡ p → Restored before k r after
-    → AtTop (over (strike before) p) (call.Restore k) (answer.Restored r) (over (strike after) q)
-row_restored p q before after k r same h = rw same (restored h)
-
--- a look at a layer
-pub layer_seen : (p : Plain) (l : Layer) (s : Shown) (look : Look) (sight : Sight) → s ≡ top p → Sees (shown_by l s) look sight
-    → AtTop (over l p) (call.Look look) (answer.Seen sight) (over l p)
-layer_seen p l s look sight t h = seen (subst (λ (v : Shown). Sees (shown_by l v) look sight) t h)
+pub row_struck : (p : Plain) (s : Shown) (before after : List ℕ) (k : ℕ) (r : Result Unit StrikeFault) → s ≡ top p → Struck s before k r after
+    → AtTop (over (strike before) p) (call.Strike k) (answer.Struck r) (over (strike after) p)
+row_struck p s before after k r t h = struck (subst (λ (v : Shown). Struck v before k r after) t h)
 
 -- a call on the top part, counted from the lowest
 pub at_part : {p q : Plain} {part : ℕ} {c : Call} {a : Answer} → part ≡ length p.layers → AtTop p c a q → Step p part c a q

@@ -2,12 +2,13 @@
 use Rattle.std.proofs.Common.{◌≡◌, ℕ, zero, suc, ◌+◌, ◌-◌, ◌<◌, ◌≤◌, Bool, true, false, cond, ◌||◌, eqb, ltb, leb, List, [], ◌∷◌, length, sym, refl, ap, ◌∙◌, ⊎_elim, zero-le, le_of_suc-le-suc, not-suc-le-zero, arith}
 use native.Mathlib.Nat.{sub-zero}
 use Rattle.std.specs.List.{slice_get, remove}
+use Rattle.std.specs.List.Sorted.{IsPartitionPoint, IsPartitionedBy}
 use Rattle.std.proofs.lemmas.List.Edits.{length-remove}
 use Rattle.std.proofs.lemmas.Bool.{ltb-true, ltb-false, leb-true, leb-false, eq-eqb, ne_eqb, and_parts, or_from, or_left, cases_Bool, cases_order, cases_lt}
 use Rattle.schema.specs.declared.row.Row.{Row}
 use Rattle.pile.specs.Standing.{among, above, rises, smaller, shifted}
 use Rattle.pile.specs.Strikes.{unstruck}
-use Rattle.pile.proofs.Rising.{above_not, smaller_none}
+use Rattle.pile.proofs.Rising.{above_not, smaller_none, parted}
 
 -- nothing is taken from nothing
 removed_nil : {X : Type 0} (i : ℕ) → remove {X = X} [] i ≡ []
@@ -134,3 +135,11 @@ length_without (x ∷ xs) rows h =
 -- how many rows are shown
 pub length_unstruck : (xs : List ℕ) (rows : List Row) → rises xs ≡ true → length (unstruck 0 xs rows) + smaller (length rows) xs ≡ length rows
 length_unstruck xs rows h = ap (λ (ys : List Row). length ys + smaller (length rows) xs) (unstruck_is xs rows h) ∙ length_without xs rows h
+
+-- the same by the place that a search told of a slice of the numbers
+pub length_left : (xs ys : List ℕ) (rows : List Row) (n i : ℕ) → rises xs ≡ true → ys ≡ xs → n ≡ length rows → i ≤ length ys
+    → (IsPartitionedBy (λ y. ltb y n) ys → IsPartitionPoint (λ y. ltb y n ≡ true) (λ y. ltb y n ≡ false) ys i) → length (unstruck 0 xs rows) + i ≡ n
+length_left xs ys rows n i up same e w h =
+    let p : i ≡ smaller n ys = parted n i ys (ap rises same ∙ up) w h in
+    let q : smaller n ys ≡ smaller (length rows) xs = ap (smaller n) same ∙ ap (λ (j : ℕ). smaller j xs) e in
+    omega (arith, length_unstruck xs rows up)

@@ -1,3 +1,4 @@
+pub mod Layers
 pub mod Lives
 pub mod Plain
 pub mod Refusals

@@ -3,6 +3,7 @@
 --   Entering      a row entered into the top part
 --   Loading       a text loaded into the top part
 --   AtTop         a call on the top part
+--   Common        a call on the top part, where it has none of its own
 --   Step          a call on any part
 --   Moment        what holds of a pile between two calls
 --   Life          calls in a row, one answer to each
@@ -79,6 +80,13 @@ pub data AtTop : Plain → Call → Answer → Plain → Type 0 where
       → AtTop p (call.Strike k) (answer.NotHere (call.Strike k)) p
   no_restore : {p : Plain} {k : ℕ} → is_strike p.layers ≡ false
       → AtTop p (call.Restore k) (answer.NotHere (call.Restore k)) p
+
+-- of itself a part takes rows, loads texts and is looked at, and gives any other call back
+abbrev pub Common : Plain → Call → Answer → Plain → Type 0
+Common p (call.Enter row) a q = AtTop p (call.Enter row) a q
+Common p (call.Load text) a q = AtTop p (call.Load text) a q
+Common p (call.Look l) a q = AtTop p (call.Look l) a q
+Common p c a q = (a ≡ answer.NotHere c) × (q ≡ p)
 
 -- part 0 is the lowest sheet, and the layers follow upward; a call on one part leaves what the others hold
 pub data Step : Plain → ℕ → Call → Answer → Plain → Type 0 where

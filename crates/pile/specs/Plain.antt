@@ -64,11 +64,15 @@ lower s (l ∷ ls) = layered s ls ∷ lower s ls
 abbrev pub parts : Plain → List Shown
 parts p = top p ∷ lower p.lowest.shown p.layers
 
--- rows go to the end of the lowest sheet or of a trial's own; a strike layer has room for none
+-- rows go to the end of a trial's own; a strike layer has room for none
+abbrev pub grown_layer : Layer → List Row → Layer
+grown_layer (trial own) rows = trial (own ++ rows)
+grown_layer (strike struck) rows = strike struck
+
+-- rows go to the end of the lowest sheet, or of the layer at the top
 abbrev pub grown_from : Lowest → List Layer → List Row → Plain
 grown_from l [] rows = alone (with_rows l.shown (l.shown.rows ++ rows)) l.book
-grown_from l (trial own ∷ ls) rows = record { lowest = l; layers = trial (own ++ rows) ∷ ls }
-grown_from l (strike struck ∷ ls) rows = record { lowest = l; layers = strike struck ∷ ls }
+grown_from l (x ∷ xs) rows = record { lowest = l; layers = grown_layer x rows ∷ xs }
 
 abbrev pub grown : Plain → List Row → Plain
 grown p = grown_from p.lowest p.layers

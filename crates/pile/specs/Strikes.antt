@@ -11,7 +11,8 @@ use Rattle.pile.specs.declared.faults.StrikeFault.{StrikeFault}
 use Rattle.pile.specs.declared.faults.StrikeFault.TheVariants.{NoSuchRow, StruckAlready, TooManyStruck}
 use Rattle.pile.specs.declared.faults.RestoreFault.{RestoreFault}
 use Rattle.pile.specs.declared.faults.RestoreFault.TheVariants.{NotStruck}
-use Rattle.pile.specs.declared.strike.Strike.{Strike}
+use Rattle.pile.specs.declared.layered.Layered.{Layered}
+use Rattle.pile.specs.declared.strike.StruckRows.{StruckRows}
 use Rattle.pile.specs.Standing.{among, adds, drops}
 
 -- the rows, numbered from i, whose numbers are not struck
@@ -27,8 +28,8 @@ strike_shows s struck = record {
   capacity = length (unstruck 0 struck s.rows);
 }
 
-abbrev pub struck_rows : {S : Type 0} → Strike S → List ℕ
-struck_rows t = vec_items t.struck
+abbrev pub struck_rows : {S : Type 0} → Layered StruckRows S → List ℕ
+struck_rows t = vec_items t.layer.struck
 
 -- striking row k of a sheet that shows s
 abbrev pub Struck : Shown → List ℕ → ℕ → Result Unit StrikeFault → List ℕ → Type 0
@@ -57,3 +58,6 @@ strike_bounded s struck b = record {
   few_rows = omega arith;
   few_places = omega (arith, unstruck_few 0 struck s.rows, b.few_rows, b.few_places);
 }
+
+pub strike_keeps : (t : StruckRows) (s : Shown) → Bounded s → Bounded (strike_shows s (vec_items t.struck))
+strike_keeps t s b = strike_bounded s (vec_items t.struck) b

@@ -1,14 +1,12 @@
 -- Trial layers.
 --   trial_shows   what such a layer shows of the sheet below and its own rows
 --   own_rows      the rows of a layer's own
---   TrialEntered  what entering a row answers, and the layer's own rows after it
-use Rattle.std.specs.Prelude.{◌≡◌, ℕ, ◌+◌, ◌<◌, ◌≤◌, min, List, [], ◌∷◌, ◌++◌, length, take, Ok, Err, vec_items, Result}
+use Rattle.std.specs.Prelude.{◌≡◌, ℕ, ◌+◌, min, List, ◌++◌, length, take, vec_items}
 use Rattle.std.proofs.Common.{ap, ◌∙◌, arith, length-take, length-append}
 use Rattle.schema.specs.declared.row.Row.{Row}
-use Rattle.schema.specs.declared.faults.EnterFault.{EnterFault}
-use Rattle.schema.specs.declared.faults.EnterFault.TheVariants.{Full}
 use Rattle.schema.specs.Sheets.{Shown, Bounded}
-use Rattle.pile.specs.declared.trial.Trial.{Trial}
+use Rattle.pile.specs.declared.layered.Layered.{Layered}
+use Rattle.pile.specs.declared.trial.OwnRows.{OwnRows}
 
 -- the rows below and then the layer's own, the first 65,535 in all
 abbrev pub trial_shows : Shown → List Row → Shown
@@ -19,25 +17,19 @@ trial_shows s own = record {
   capacity = min (length s.rows + 32) 65535;
 }
 
-abbrev pub own_rows : {S : Type 0} → Trial S → List Row
-own_rows t = vec_items t.own
-
--- a row goes to the end of the layer's own where the layer has room, and otherwise nothing changes
-abbrev pub TrialEntered : Shown → List Row → Row → Result Unit EnterFault → List Row → Type 0
-TrialEntered s own row (Ok u) after = (length (trial_shows s own).rows < (trial_shows s own).capacity) × (after ≡ own ++ row ∷ [])
-TrialEntered s own row (Err Full) after = ((trial_shows s own).capacity ≤ length (trial_shows s own).rows) × (after ≡ own)
+abbrev pub own_rows : {S : Type 0} → Layered OwnRows S → List Row
+own_rows t = vec_items t.layer.own
 
 -- how many rows are shown
 pub shown_length : (n : ℕ) (rows own : List Row) → length (take n (rows ++ own)) ≡ min n (length rows + length own)
 shown_length n rows own = length-take n (rows ++ own) ∙ ap (min n) (length-append rows own)
 
 -- a trial layer keeps the laws of every sheet
-pub trial_bounded : {S : Type 0} (t : Trial S) (s : Shown) → Bounded s → Bounded (trial_shows s (own_rows t))
+pub trial_bounded : (t : OwnRows) (s : Shown) → Bounded s → Bounded (trial_shows s (vec_items t.own))
 trial_bounded t s b =
-    let own = own_rows t in
     record {
       few_classes = b.few_classes;
       few_arrows = b.few_arrows;
-      few_rows = omega (arith, shown_length 65535 s.rows own, t.room, t.own.ok.0);
+      few_rows = omega (arith, shown_length 65535 s.rows (vec_items t.own), t.room, t.own.ok.0);
       few_places = omega arith;
     }

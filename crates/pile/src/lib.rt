@@ -2,6 +2,8 @@
 #![tactic(auto)]
 
 pub mod faults;
+pub mod layer;
+pub mod layered;
 pub mod limits;
 pub mod loading;
 mod looks;

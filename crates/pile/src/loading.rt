@@ -1,21 +1,12 @@
 //! Loading a text into a part of a pile.
 ghost use Rattle.std.specs.Prelude.{◌≡◌, ◌+◌, ◌≤◌, length};
-ghost use Rattle.pile.specs.Lives.{AtTop, Loading};
+ghost use Rattle.pile.specs.Lives.{Loading};
 ghost use Rattle.pile.specs.Plain.{grown, top};
 
 use crate::part::Part;
-use crate::request::{Answer, Call};
 use schema::faults::LoadFault;
 use schema::loading::admit;
-use schema::sheet::Sheet;
-
-/// Loads a text, which is given back.
-pub(crate) fn load_text<P: Part>(part: &mut P, text: Vec<u8>) -> Answer
-    ensures { AtTop (P.Part.plain part.old) (Call.Load text) result (P.Part.plain part.new) }
-{
-    let loaded = load_part(part, text.as_slice());
-    Answer::Loaded(loaded, text)
-}
+use schema::row::Row;
 
 /// Puts all rows of a text into a part in their order, or says why the part stays as it was. Each row goes in by the
 /// part's own call, so that one knows what becomes of the plain pile and not only what is shown.
@@ -23,21 +14,17 @@ pub fn load_part<P: Part>(part: &mut P, text: &[u8]) -> Result<(), LoadFault>
     ensures { Loading (P.Part.plain part.old) text.now result (P.Part.plain part.new) }
 {
     let told = admit(&*part, text)?;
-    put_all(part, &told);
+    put_all(part, told.rows());
     Ok(())
 }
 
-// Puts in the rows of another sheet, for which there is room.
-fn put_all<P: Part, T: Sheet>(part: &mut P, from: &T)
-    requires { length (top (P.Part.plain part.old)).rows + length (T.Sheet.shows from.now).rows ≤ (top (P.Part.plain part.old)).capacity }
-    ensures { P.Part.plain part.new ≡ grown (P.Part.plain part.old) (T.Sheet.shows from.now).rows }
+// Puts in rows for which there is room. A closure would not make one of this and schema's own loop over `enter`: what
+// the two calls ensure differs, and the loops are two lines.
+fn put_all<P: Part>(part: &mut P, rows: &[Row])
+    requires { length (top (P.Part.plain part.old)).rows + length rows.now ≤ (top (P.Part.plain part.old)).capacity }
+    ensures { P.Part.plain part.new ≡ grown (P.Part.plain part.old) rows.now }
 {
-    for k in 0..from.len() {
-        if let Some(row) = from.row(k) {
-            match part.put(row) {
-                Ok(()) => {}
-                Err(_) => unreachable(),
-            }
-        }
+    for row in rows {
+        part.put(*row).unwrap();
     }
 }

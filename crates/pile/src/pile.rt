@@ -34,6 +34,6 @@ pub trait Pile: Part + Sized {
 
 pub mod bases;
 pub mod books;
+mod common;
+pub mod layers;
 pub mod life;
-pub mod strikes;
-pub mod trials;

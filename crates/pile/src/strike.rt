@@ -2,12 +2,15 @@
 ghost use Rattle.std.specs.Prelude.{◌≡◌, ◌≤◌, true, vec_len, vec_capacity};
 ghost use Rattle.pile.specs.Standing.{rises};
 
-/// A sheet, and the numbers of its rows that are struck, in rising order. The memory for all of them is reserved when
-/// the layer is made, so that no later call can fail for want of it.
+use crate::layered::Layered;
+
+/// A sheet, and a layer that hides some of its rows.
+pub type Strike<S> = Layered<StruckRows, S>;
+
+/// The numbers of the rows that are struck, in rising order. The memory for all of them is reserved when the layer is
+/// made, so that no later call can fail for want of it.
 #[derive(Drop)]
-pub struct Strike<S> {
-    /// The sheet below, which may be called while the layer lies above it.
-    pub below: S,
+pub struct StruckRows {
     struck: Vec<usize>,
     ghost room: { (vec_len struck ≤ 32) × (32 ≤ vec_capacity struck) },
     ghost rising: { rises struck.items ≡ true },

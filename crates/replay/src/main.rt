@@ -3,15 +3,13 @@
 
 mod answers;
 mod help;
-mod input;
 mod script;
 mod words;
 
-use crate::answers::{Refusal, Told};
+use crate::answers::{Outcome, Told};
 use crate::help::HELP;
-use crate::input::{SCRIPT_BYTES, asks_for_help, read_input};
-use crate::script::{Lowest, Script, ScriptFault, Title, read_script};
-use anyhow::anyhow;
+use crate::script::{Lowest, SCRIPT_BYTES, Script, ScriptFault, read_script};
+use crate::words::Puzzle;
 use pile::pile::Pile;
 use pile::pile::bases::Base;
 use pile::pile::life::live;
@@ -22,29 +20,31 @@ use schema::book::Book;
 use schema::sheet::Sheet;
 use schema::text::check_text;
 use schema::text_sheet::TextSheet;
+use std::env;
+use std::io::Read;
 use std::process::ExitCode;
 
 fn main(rt: HostRuntime) -> anyhow::Result<ExitCode> {
-    if asks_for_help(&rt)? {
+    let first = env::args(&rt)?.nth(1);
+    if first.is_some_and(|word| matches!(word.as_str(), "--help" | "-h")) {
         rt.print(HELP)?;
         return Ok(ExitCode::SUCCESS);
     }
     let mut bytes = Vec::new(rt.alloc());
-    read_input(&mut rt.stdin(), &mut bytes)?;
-    if bytes.len() > SCRIPT_BYTES {
-        eprintln!(rt; "line 1: the script is longer than {SCRIPT_BYTES} bytes")?;
-        return Ok(ExitCode::FAILURE);
-    }
+    // One byte more than a script may have tells that it is too long. A cast, since no `From` leads from usize to u64.
+    rt.stdin()
+        .take(SCRIPT_BYTES as u64 + 1)
+        .read_to_end(&mut bytes)?;
     match read_script(rt.alloc(), bytes.as_slice()) {
         Ok(script) => {
             replay(&rt, script)?;
             Ok(ExitCode::SUCCESS)
         }
-        Err(ScriptFault::Line(line, words)) => {
-            eprintln!(rt; "line {line}: {words}")?;
+        Err(ScriptFault(_, puzzle @ Puzzle::Memory(_))) => Err(puzzle.into()),
+        Err(fault) => {
+            eprintln!(rt; "{fault}")?;
             Ok(ExitCode::FAILURE)
         }
-        Err(ScriptFault::Memory) => Err(anyhow!("no memory")),
     }
 }
 
@@ -58,23 +58,16 @@ fn replay(rt: &HostRuntime, script: Script) -> anyhow::Result<()> {
     let [first, rest @ ..] = titles.as_slice() else {
         return Ok(());
     };
-    let Title { line, words } = first;
-    print!(rt; "{line}: {words}: ")?;
+    print!(rt; "{first}: ")?;
     match lowest {
         Lowest::Book(classes, arrows) => {
             let mut book = Book::new(rt.alloc())?;
-            match book.set_up(classes, arrows) {
-                Ok(()) => rt.println("done")?,
-                Err(fault) => rt.println(Refusal(fault.notice()))?,
-            }
+            rt.println(Outcome(book.set_up(classes, arrows)))?;
             let classes = usize::from(book.classes());
             play::<Strike<Trial<Trial<Book>>>>(rt, book, classes, steps, rest)
         }
         Lowest::Text(text) => {
-            match check_text(text.as_slice()) {
-                Ok(()) => rt.println("done")?,
-                Err(fault) => rt.println(Refusal(fault.notice()))?,
-            }
+            rt.println(Outcome(check_text(text.as_slice())))?;
             let sheet = TextSheet::new(text.as_slice());
             let classes = usize::from(sheet.classes());
             play::<Strike<Trial<Trial<Base<TextSheet>>>>>(rt, sheet, classes, steps, rest)
@@ -88,13 +81,12 @@ fn play<P: Pile + Drop>(
     lowest: P::Lowest,
     classes: usize,
     steps: Vec<Request>,
-    titles: &[Title],
+    titles: &[String],
 ) -> anyhow::Result<()> {
     let (_pile, answers) = live::<P>(rt.alloc(), lowest, steps)?;
     for (title, answer) in titles.iter().zip(answers.iter()) {
-        let Title { line, words } = title;
         let told = Told { answer, classes };
-        println!(rt; "{line}: {words}: {told}")?;
+        println!(rt; "{title}: {told}")?;
     }
     Ok(())
 }

@@ -1,7 +1,11 @@
 //! A script: the lowest sheet, and the calls to be made.
-use crate::words::{Puzzle, Wanted, join_words, part_number, read_call, small, split_words};
+use crate::words::{Puzzle, part_number, read_call, small, split_words};
 use pile::request::{Call, Request};
-use std::alloc::{AllocError, AllocFailed, Global};
+use std::alloc::Global;
+use thiserror::Error;
+
+/// The most bytes that a script may have.
+pub(crate) const SCRIPT_BYTES: usize = 1048576;
 
 /// The lowest sheet: a book by its counts, or what a text tells.
 #[derive(Drop)]
@@ -10,39 +14,18 @@ pub enum Lowest {
     Text(Vec<u8>),
 }
 
-/// A line of a script, by its number and its words as they were written.
-#[derive(Drop)]
-pub struct Title {
-    pub line: usize,
-    pub words: String,
-}
-
-/// The titles are those of the lowest sheet and then of each step.
+/// The titles are those of the lowest sheet and then of each step: the number of its line, and the words as they were written.
 #[derive(Drop)]
 pub struct Script {
     pub lowest: Lowest,
     pub steps: Vec<Request>,
-    pub titles: Vec<Title>,
+    pub titles: Vec<String>,
 }
 
-/// Why a script is refused: what is wrong with a line, or want of memory.
-#[derive(Drop)]
-pub enum ScriptFault {
-    Line(usize, &'static str),
-    Memory,
-}
-
-impl From<AllocError> for ScriptFault {
-    fn from(_fault: AllocError) -> ScriptFault {
-        ScriptFault::Memory
-    }
-}
-
-impl<T: Drop> From<AllocFailed<T>> for ScriptFault {
-    fn from(_fault: AllocFailed<T>) -> ScriptFault {
-        ScriptFault::Memory
-    }
-}
+/// Why a script is refused: a line of it, and what is wrong there.
+#[derive(Debug, Drop, Error)]
+#[error("line {0}: {1}")]
+pub struct ScriptFault(pub usize, pub Puzzle);
 
 // A text that is being read: the line that asked for it, and the part that loads it, or none for the lowest sheet.
 #[derive(Drop)]
@@ -52,54 +35,50 @@ struct Opened {
     text: Vec<u8>,
 }
 
-// What was read so far.
+// What was read so far, and the number of the line that is being read.
 #[derive(Drop)]
 struct Reader {
     heap: Global,
+    line: usize,
     lowest: Option<Lowest>,
     steps: Vec<Request>,
-    titles: Vec<Title>,
+    titles: Vec<String>,
     open: Option<Opened>,
 }
 
 /// Reads a script to its end.
 pub(crate) fn read_script(heap: Global, bytes: &[u8]) -> Result<Script, ScriptFault> {
+    if bytes.len() > SCRIPT_BYTES {
+        return Err(ScriptFault(1, Puzzle::TooLong));
+    }
     let mut reader = Reader {
         heap,
+        line: 0,
         lowest: None,
         steps: Vec::new(heap),
         titles: Vec::new(heap),
         open: None,
     };
-    let mut number = 0usize;
-    let mut line = Vec::new(heap);
-    for byte in bytes {
-        if *byte == b'\n' {
-            number = number.saturating_add(1);
-            reader.take(number, line.as_slice())?;
-            line.clear();
-        } else {
-            line.push(*byte)?;
-        }
+    for (line, words) in (1..).zip(bytes.split(|byte| *byte == b'\n')) {
+        reader.line = line;
+        reader
+            .take(words)
+            .map_err(|puzzle| ScriptFault(line, puzzle))?;
     }
-    number = number.saturating_add(1);
-    if !line.is_empty() {
-        reader.take(number, line.as_slice())?;
-    }
-    reader.finish(number)
+    reader.finish()
 }
 
 impl Reader {
     // One line more.
-    fn take(&mut self, number: usize, line: &[u8]) -> Result<(), ScriptFault> {
+    fn take(&mut self, line: &[u8]) -> Result<(), Puzzle> {
         match self.open.take() {
             Some(opened) => self.read_on(opened, line),
-            None => self.begin(number, line),
+            None => self.begin(line),
         }
     }
 
     // A line of a text, or the one that ends it.
-    fn read_on(&mut self, mut opened: Opened, line: &[u8]) -> Result<(), ScriptFault> {
+    fn read_on(&mut self, mut opened: Opened, line: &[u8]) -> Result<(), Puzzle> {
         if line == b"end".as_slice() {
             return self.close(opened);
         }
@@ -110,7 +89,7 @@ impl Reader {
     }
 
     // A text is whole.
-    fn close(&mut self, opened: Opened) -> Result<(), ScriptFault> {
+    fn close(&mut self, opened: Opened) -> Result<(), Puzzle> {
         let Opened {
             line: _,
             part,
@@ -127,84 +106,69 @@ impl Reader {
     }
 
     // A line that is not of a text.
-    fn begin(&mut self, number: usize, line: &[u8]) -> Result<(), ScriptFault> {
-        let Ok(line) = std::str::from_utf8(line) else {
-            return Err(ScriptFault::Line(number, "the line is no text"));
-        };
+    fn begin(&mut self, line: &[u8]) -> Result<(), Puzzle> {
+        let line = std::str::from_utf8(line).map_err(|_| "the line is no text")?;
         let words = split_words(self.heap, line)?;
-        let [first, ..] = words.as_slice() else {
-            return Ok(());
-        };
-        if first.starts_with('#') {
+        if words.first().is_none_or(|first| first.starts_with('#')) {
             return Ok(());
         }
-        self.titles.push(Title {
-            line: number,
-            words: join_words(self.heap, words.as_slice())?,
-        })?;
-        match self.follow(number, words.as_slice()) {
-            Ok(()) => Ok(()),
-            Err(Puzzle::Words(what)) => Err(ScriptFault::Line(number, what)),
-            Err(Puzzle::Memory) => Err(ScriptFault::Memory),
-        }
+        let (number, line) = (self.line, words.join(self.heap, " ")?);
+        self.titles
+            .push(format!(in self.heap; "{number}: {line}")?)?;
+        self.follow(words.as_slice())
     }
 
     // What the words of a line say: the lowest sheet first, and then calls.
-    fn follow(&mut self, number: usize, words: &[&str]) -> Result<(), Puzzle> {
+    fn follow(&mut self, words: &[&str]) -> Result<(), Puzzle> {
         if self.lowest.is_none() {
-            return self.found(number, words);
+            return self.found(words);
         }
         let [word, name, rest @ ..] = words else {
-            return Err(Puzzle::Words("a call is a part and what it is asked"));
+            return Err("a call is a part and what it is asked".into());
         };
         let part = part_number(word)?;
         match read_call(self.heap, name, rest)? {
-            Wanted::Made(call) => match self.steps.push(Request { part, call }) {
-                Ok(()) => Ok(()),
-                Err(_) => Err(Puzzle::Memory),
-            },
-            Wanted::Load => {
-                self.open_text(number, Some(part));
-                Ok(())
-            }
+            Call::Load(text) => self.open_text(Some(part), text),
+            call => self.steps.push(Request { part, call })?,
         }
+        Ok(())
     }
 
     // The lowest sheet.
-    fn found(&mut self, number: usize, words: &[&str]) -> Result<(), Puzzle> {
+    fn found(&mut self, words: &[&str]) -> Result<(), Puzzle> {
         match words {
             ["book", classes, arrows] => {
                 self.lowest = Some(Lowest::Book(small(classes)?, small(arrows)?));
-                Ok(())
             }
-            ["text"] => {
-                self.open_text(number, None);
-                Ok(())
+            ["text"] => self.open_text(None, Vec::new(self.heap)),
+            _ => {
+                return Err("a script begins with 'book' and two numbers, or with 'text'".into());
             }
-            _ => Err(Puzzle::Words("a script begins with 'book' and two numbers, or with 'text'")),
         }
+        Ok(())
     }
 
     // The lines that follow are a text.
-    fn open_text(&mut self, line: usize, part: Option<usize>) {
+    fn open_text(&mut self, part: Option<usize>, text: Vec<u8>) {
         self.open = Some(Opened {
-            line,
+            line: self.line,
             part,
-            text: Vec::new(self.heap),
+            text,
         });
     }
 
     // The script is whole.
-    fn finish(self, number: usize) -> Result<Script, ScriptFault> {
+    fn finish(self) -> Result<Script, ScriptFault> {
         let Reader {
             heap: _,
+            line,
             lowest,
             steps,
             titles,
             open,
         } = self;
         if let Some(opened) = open {
-            return Err(ScriptFault::Line(opened.line, "the text has no 'end'"));
+            return Err(ScriptFault(opened.line, "the text has no 'end'".into()));
         }
         match lowest {
             Some(lowest) => Ok(Script {
@@ -212,7 +176,7 @@ impl Reader {
                 steps,
                 titles,
             }),
-            None => Err(ScriptFault::Line(number, "the script has no lowest sheet")),
+            None => Err(ScriptFault(line, "the script has no lowest sheet".into())),
         }
     }
 }

@@ -1,8 +1,7 @@
 //! Reads a text from standard input and writes which classes and arrows its rows force empty.
 #![tactic(auto)]
 
-ghost use Rattle.std.specs.Io.{ReadsAtMost};
-
+use arrayvec::ArrayVec;
 use schema::report::{REPORT_BYTES, report};
 use std::io::{Read, Write};
 use std::{env, io};
@@ -40,42 +39,14 @@ Example:                         Report:
 ";
 
 fn main(rt: HostRuntime) -> io::Result<()> {
-    if asks_for_help(&rt)? {
+    let first = env::args(&rt)?.nth(1);
+    if first.is_some_and(|word| matches!(word.as_str(), "--help" | "-h")) {
         return rt.print(HELP);
     }
-    let mut input = [0u8; INPUT_BYTES];
-    let len = read_input(&mut rt.stdin(), &mut input)?;
+    let mut input = ArrayVec::<u8, INPUT_BYTES>::new();
+    // A cast, since no `From` leads from usize to u64.
+    io::copy(&mut rt.stdin().take(INPUT_BYTES as u64), &mut input)?;
     let mut bytes = [0u8; REPORT_BYTES];
-    match report(&input[0..len], &mut bytes) {
-        Ok(written) => rt.stdout().write_all(&bytes[0..written]),
-        Err(_) => Ok(()),
-    }
-}
-
-// Whether the first argument asks for help.
-fn asks_for_help(rt: &HostRuntime) -> io::Result<bool> {
-    let mut words = env::args(rt)?;
-    let _ = words.next();
-    match words.next() {
-        Some(word) => Ok(word.as_str() == "--help" || word.as_str() == "-h"),
-        None => Ok(false),
-    }
-}
-
-// Reads until the input ends or the buffer is full, and tells how many bytes came.
-fn read_input<R: Read>(from: &mut R, input: &mut [u8]) -> io::Result<usize>
-    ensures { ReadsAtMost result input.new }
-{
-    let mut len = 0;
-    for _ in 0..INPUT_BYTES {
-        if len == input.len() {
-            break;
-        }
-        let got = from.read(&mut input[len..])?;
-        if got == 0 {
-            break;
-        }
-        len += got;
-    }
-    Ok(len)
+    let written = report(input.as_slice(), &mut bytes).unwrap();
+    rt.stdout().write_all(&bytes[..written])
 }

@@ -72,8 +72,8 @@ pub feed_strays : (x : ℕ) → (x ≡ 10 → ⊥) → Strays Feed (x ∷ []) 0
 feed_strays x bad = record { alike = (10 ∷ [], refl, refl); none = λ m f e. bad (ap (λ y. get_or y 0 0) (sym e ∙ ap (take 1) f)) }
 
 -- three groups and the line feed, one after another
-pub numbers_spelled : {xs hs bs ns : List ℕ} (a b n x : ℕ) → xs ≡ hs ++ (bs ++ (ns ++ x ∷ [])) → hs ≡ group a → bs ≡ group b → ns ≡ group n → x ≡ 10 → xs ≡ tail a b n
-numbers_spelled a b n x r p q s e = rw (r, p, q, s, e)
+pub numbers_spelled : {first bs ns rest : List ℕ} (a b n x : ℕ) → first ≡ group a → rest ≡ bs ++ (ns ++ x ∷ []) → bs ≡ group b → ns ≡ group n → x ≡ 10 → first ++ rest ≡ tail a b n
+numbers_spelled a b n x p r q s e = rw (p, r, q, s, e)
 
 -- a line is its letter and its tail
 pub line_spelled : {bytes l : List ℕ} (x a b n : ℕ) → bytes ≡ x ∷ l → l ≡ tail a b n → bytes ≡ line x a b n

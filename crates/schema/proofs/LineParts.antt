@@ -14,10 +14,10 @@ drop_listed (suc n) i xs h =
     let e : suc i + n ≡ i + suc n = omega arith in
     drop-cons xs i 0 (omega arith) ∙ ap (λ l. get_or xs i 0 ∷ l) (drop_listed n (suc i) xs (omega arith) ∙ ap (λ k. listed n (suc i) xs ++ drop k xs) e)
 
--- a line by its letter and the rest
-pub line_parts : (xs : List ℕ) → 1 ≤ length xs → xs ≡ get_or xs 0 0 ∷ take (length xs - 1) (drop 1 xs)
-line_parts xs h = drop_listed 1 0 xs h ∙ ap (λ l. listed 1 0 xs ++ l) (sym (take_rest xs 1))
+-- a line by its letter, its first group and the rest
+pub line_parts : (xs : List ℕ) → 5 ≤ length xs → xs ≡ get_or xs 0 0 ∷ (listed 4 1 xs ++ take (length xs - 5) (drop 5 xs))
+line_parts xs h = drop_listed 5 0 xs h ∙ ap (λ l. listed 5 0 xs ++ l) (sym (take_rest xs 5))
 
--- the rest by its three groups and the last byte
-pub rest_parts : (xs : List ℕ) → length xs ≡ 13 → xs ≡ listed 4 0 xs ++ (listed 4 4 xs ++ (listed 4 8 xs ++ get_or xs 12 0 ∷ []))
-rest_parts xs h = drop_listed 13 0 xs (omega arith) ∙ ap (λ l. listed 13 0 xs ++ l) (drop_all 13 xs (omega arith))
+-- the rest by its two groups and the last byte
+pub rest_parts : (xs : List ℕ) → length xs ≡ 9 → xs ≡ listed 4 0 xs ++ (listed 4 4 xs ++ get_or xs 8 0 ∷ [])
+rest_parts xs h = drop_listed 9 0 xs (omega arith) ∙ ap (λ l. listed 9 0 xs ++ l) (drop_all 9 xs (omega arith))

@@ -1,5 +1,5 @@
 //! Lines: a letter, three numbers of four columns each and a line feed.
-ghost use Rattle.std.specs.Prelude.{◌≡◌, ℕ, ◌+◌, ◌≤◌, true, false, length, Decides, MatchResult};
+ghost use Rattle.std.specs.Prelude.{◌≡◌, ℕ, ◌+◌, ◌≤◌, ◌++◌, true, false, length, Decides, MatchResult};
 ghost use Rattle.schema.specs.Rows.{Sound};
 ghost use Rattle.schema.specs.Texts.{row_line, BadColumn, RowLetter};
 ghost use Rattle.schema.specs.Texts.{Header as HeaderLetter};
@@ -35,11 +35,11 @@ pub(crate) fn header_line(bytes: &[u8]) -> Result<Header, LineFault>
     requires { length bytes.now ≡ 14 }
     ensures { MatchResult result (λ h. (h.classes ≤ 9999) × (h.arrows ≤ 9999) × (h.rows ≤ 9999) × (bytes.now ≡ head_line h.classes h.arrows h.rows)) (λ e. (k : ℕ) × (e ≡ Form (record { line = 1; column = k })) × BadColumn HeaderLetter bytes.now k) }
 {
-    let [letter, numbers @ ..] = bytes else {
+    let [letter, a0, a1, a2, a3, rest @ ..] = bytes else {
         unreachable()
     };
     expect(*letter == b'H', 1, LETTER)?;
-    let (classes, arrows, rows) = read_numbers(numbers, 1)?;
+    let (classes, arrows, rows) = read_numbers([*a0, *a1, *a2, *a3], rest, 1)?;
     Ok(Header {
         classes,
         arrows,
@@ -52,11 +52,11 @@ pub(crate) fn row_line(bytes: &[u8], line: u16, header: Header) -> Result<Row, L
     requires { length bytes.now ≡ 14 }
     ensures { MatchResult result (λ row. (bytes.now ≡ row_line row) × Sound header.classes header.arrows row) (λ e. LineFaulty bytes.now line header.classes header.arrows e) }
 {
-    let [letter, numbers @ ..] = bytes else {
+    let [letter, a0, a1, a2, a3, rest @ ..] = bytes else {
         unreachable()
     };
     expect(begins_row(*letter), line, LETTER)?;
-    let (a, b, n) = read_numbers(numbers, line)?;
+    let (a, b, n) = read_numbers([*a0, *a1, *a2, *a3], rest, line)?;
     let row = Row {
         letter: *letter,
         a,
@@ -90,15 +90,15 @@ fn expect(good: bool, line: u16, column: u16) -> Result<(), ColumnFault>
     }
 }
 
-// The three numbers of a line and its line feed, which come after its letter.
-fn read_numbers(bytes: &[u8], line: u16) -> Result<(u16, u16, u16), ColumnFault>
-    requires { length bytes.now ≡ 13 }
-    ensures { MatchResult result (λ x. (x.0 ≤ 9999) × (x.1 ≤ 9999) × (x.2 ≤ 9999) × (bytes.now ≡ tail x.0 x.1 x.2)) (λ e. (k : ℕ) × (e ≡ record { line = line; column = k + 2 }) × Strays Tail bytes.now k) }
+// The three numbers of a line, from its first group and what comes after that, up to the line feed.
+fn read_numbers(first: [u8; 4], rest: &[u8], line: u16) -> Result<(u16, u16, u16), ColumnFault>
+    requires { (length first ≡ 4) × (length rest.now ≡ 9) }
+    ensures { MatchResult result (λ x. (x.0 ≤ 9999) × (x.1 ≤ 9999) × (x.2 ≤ 9999) × (first ++ rest.now ≡ tail x.0 x.1 x.2)) (λ e. (k : ℕ) × (e ≡ record { line = line; column = k + 2 }) × Strays Tail (first ++ rest.now) k) }
 {
-    let [a0, a1, a2, a3, b0, b1, b2, b3, n0, n1, n2, n3, feed] = bytes else {
+    let [b0, b1, b2, b3, n0, n1, n2, n3, feed] = rest else {
         unreachable()
     };
-    let a = read_group([*a0, *a1, *a2, *a3], line, FIRST)?;
+    let a = read_group(first, line, FIRST)?;
     let b = read_group([*b0, *b1, *b2, *b3], line, SECOND)?;
     let n = read_group([*n0, *n1, *n2, *n3], line, THIRD)?;
     expect(*feed == b'\n', line, FEED)?;

@@ -1,4 +1,5 @@
 pub mod Leads
+pub mod Marks
 pub mod Refusals
 pub mod Searched
 pub mod Trail

@@ -1,29 +1,12 @@
--- The inner invariants of the search: what holds while it goes on, and no promise to a caller.
-use Rattle.std.specs.Prelude.{◌≡◌, ℕ, zero, suc, ◌+◌, ◌<◌, ◌≤◌, cond, ◌⊎◌, List, [], ◌∷◌, length, take, drop, ◌==◌, slice_index}
-use Rattle.search.specs.declared.queue.Queue.{Queue}
+-- How a trail grows while a search goes on: an inner contract, and no promise to a caller.
+use Rattle.std.specs.Prelude.{◌≡◌, ℕ, ◌<◌, ◌≤◌, ◌⊎◌, length, slice_index}
+use Rattle.search.specs.declared.trail.Trail.{Trail}
 
--- the points in the queue
-abbrev pub queued : Queue → List ℕ
-queued q = take q.filled q.points
-
--- how many of the first n entries are 0
-abbrev pub zeros : ℕ → List ℕ → ℕ
-zeros zero xs = 0
-zeros (suc n) [] = 0
-zeros (suc n) (x ∷ xs) = cond (x == 0) (suc (zeros n xs)) (zeros n xs)
-
--- the order lists each marked point once, and nothing else
-pub record Trail (n : ℕ) (table order : List ℕ) : Type 0 where
-  pub bits : (k : ℕ) → k < n → (slice_index table k ≡ 0) ⊎ (slice_index table k ≡ 1)
-  pub listed : (k : ℕ) → k < n → slice_index table k ≡ 1 → (i : ℕ) × (i < length order) × (slice_index order i ≡ k)
-  pub inside : (i : ℕ) → i < length order → (slice_index order i < n) × (slice_index table (slice_index order i) ≡ 1)
-  pub room : length order + zeros n table ≡ n
-  pub long : n ≤ length table
-
--- nothing found is lost, what is new is linked to, and the bytes past the points stay
-pub record Grows (n : ℕ) (to : ℕ → Type 0) (table order table' order' : List ℕ) : Type 0 where
-  pub kept : (k : ℕ) → k < n → slice_index table k ≡ 1 → slice_index table' k ≡ 1
-  pub fresh : (k : ℕ) → k < n → slice_index table' k ≡ 1 → (slice_index table k ≡ 1) ⊎ to k
-  pub same : (i : ℕ) → i < length order → slice_index order' i ≡ slice_index order i
-  pub longer : length order ≤ length order'
-  pub later : drop n table' ≡ drop n table
+-- nothing found is lost, what is new is linked to, and no more links were followed
+pub record Grows (to : ℕ → Type 0) (old new : Trail) : Type 0 where
+  pub size : length new.marks.now ≡ length old.marks.now
+  pub kept : (k : ℕ) → k < length old.marks.now → slice_index old.marks.now k ≡ 1 → slice_index new.marks.now k ≡ 1
+  pub fresh : (k : ℕ) → k < length old.marks.now → slice_index new.marks.now k ≡ 1 → (slice_index old.marks.now k ≡ 1) ⊎ to k
+  pub same : (i : ℕ) → i < length old.found.items → slice_index new.found.items i ≡ slice_index old.found.items i
+  pub longer : length old.found.items ≤ length new.found.items
+  pub followed : new.followed ≡ old.followed

@@ -2,7 +2,7 @@
 #![tactic(auto)]
 
 pub mod breadth_first;
-mod queue;
 #[cfg(test)]
 mod tests;
+mod trail;
 pub mod web;

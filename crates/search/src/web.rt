@@ -18,6 +18,6 @@ pub trait Web {
     fn next_link(&self, from: usize, at: usize) -> Option<usize>
         ensures { NextLink (size self.now) (link self.now from) at result };
 
-    /// No web is larger than the queue of the search.
+    /// No web has more points than a search can list.
     ghost small: { (w : Self) → size w ≤ 2048 };
 }

@@ -4,8 +4,7 @@ ghost use Rattle.pile.specs.Plain.{alone};
 ghost use Rattle.std.proofs.Common.{rules};
 
 use super::Pile;
-use crate::loading::load_text;
-use crate::looks::see;
+use super::common::common_call;
 use crate::part::Part;
 use crate::request::{Answer, Call};
 use schema::faults::EnterFault;
@@ -77,15 +76,7 @@ impl<S: Sheet> Pile for Base<S> {
     }
 
     fn answer(&mut self, call: Call) -> Answer {
-        match call {
-            Call::Enter(row) => Answer::Entered(self.put(row)),
-            Call::Amend(k, row) => Answer::NotHere(Call::Amend(k, row)),
-            Call::Withdraw => Answer::NotHere(Call::Withdraw),
-            Call::Strike(k) => Answer::NotHere(Call::Strike(k)),
-            Call::Restore(k) => Answer::NotHere(Call::Restore(k)),
-            Call::Load(text) => load_text(self, text),
-            Call::Look(look) => Answer::Seen(see(&self.sheet, look)),
-        }
+        common_call(self, call)
     }
 
     fn call(&mut self, part: usize, call: Call) -> Answer {

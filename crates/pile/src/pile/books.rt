@@ -5,8 +5,7 @@ ghost use Rattle.pile.specs.Plain.{alone};
 ghost use Rattle.std.proofs.Common.{rules};
 
 use super::Pile;
-use crate::loading::load_text;
-use crate::looks::see;
+use super::common::common_call;
 use crate::part::Part;
 use crate::request::{Answer, Call};
 use schema::book::Book;
@@ -44,13 +43,8 @@ impl Pile for Book {
 
     fn answer(&mut self, call: Call) -> Answer {
         match call {
-            Call::Enter(row) => Answer::Entered(self.put(row)),
             Call::Amend(k, row) => Answer::Amended(self.amend(k, row)),
-            Call::Withdraw => Answer::NotHere(Call::Withdraw),
-            Call::Strike(k) => Answer::NotHere(Call::Strike(k)),
-            Call::Restore(k) => Answer::NotHere(Call::Restore(k)),
-            Call::Load(text) => load_text(self, text),
-            Call::Look(look) => Answer::Seen(see(&*self, look)),
+            call => common_call(self, call),
         }
     }
 

@@ -1,8 +1,10 @@
-use Rattle.std.proofs.Common.{◌+◌, ◌≤◌, length, subst}
+use Rattle.std.proofs.Common.{◌+◌, ◌≤◌, List, length, ap, ◌∙◌, subst, arith}
 use Rattle.std.proofs.lemmas.Result.{err_from_is_err_and}
+use Rattle.schema.specs.declared.row.Row.{Row}
 use Rattle.schema.specs.Loading.{Named}
 use Rattle.schema.specs.Sheets.{Shown}
 use Rattle.schema.specs.TextSheets.{text_shows}
+use Rattle.pile.specs.Plain.{grown}
 use Rattle.pile.proofs.Grown.{load_barred}
 use Rattle.pile.specs.Shown.{shows_top}
 use Rattle.pile.proofs.loading.load_part.Goals as goal
@@ -15,8 +17,10 @@ returns-in_err-told g c =
 
 pub put_all-requires : goal.put_all-requires
 put_all-requires g c =
-    let rows = (text_shows c.in_ok-told.told).rows in
-    subst (λ (s : Shown). length s.rows + length rows ≤ s.capacity) (shows_top (g.P.Part.plain c.args.part.now) (g.met.P.Part.agrees c.args.part.now)) c.in_ok-told.ensures.2
+    let p = g.P.Part.plain c.args.part.now in
+    let fits : length (g.P.Sheet.shows c.args.part.now).rows + length c.rows.result.now ≤ (g.P.Sheet.shows c.args.part.now).capacity =
+    omega (arith, c.in_ok-told.ensures.2, ap (λ (rows : List Row). length rows) c.rows.ensures) in
+    subst (λ (s : Shown). length s.rows + length c.rows.result.now ≤ s.capacity) (shows_top p (g.met.P.Part.agrees c.args.part.now)) fits
 
 pub returns : goal.returns
 returns g c =
@@ -27,5 +31,5 @@ returns g c =
       rows,
       subst (λ (s : Shown). Named s c.args.text.now (text_shows c.in_ok-told.told).classes (text_shows c.in_ok-told.told).arrows rows) there c.in_ok-told.ensures.1,
       subst (λ (s : Shown). length s.rows + length rows ≤ s.capacity) there c.in_ok-told.ensures.2,
-      c.put_all.ensures,
+      c.put_all.ensures ∙ ap (grown (g.P.Part.plain c.args.part.now)) c.rows.ensures,
     )

@@ -1,4 +1,6 @@
-use Rattle.pile.proofs.Looked.{counts_seen, capacity_seen, len_seen, row_seen, verdict_seen, question_seen}
+use Rattle.std.proofs.Common.{ℕ, List, length, ap, arith}
+use Rattle.std.proofs.lemmas.List.{with_items_is}
+use Rattle.pile.proofs.Looked.{counts_seen, capacity_seen, len_seen, row_seen, verdict_held, verdict_seen, question_seen}
 use Rattle.pile.proofs.looks.see.Goals as goal
 
 pub returns-in-Counts : goal.returns-in-Counts
@@ -14,7 +16,12 @@ pub returns-in-RowAt : goal.returns-in-RowAt
 returns-in-RowAt g c = row_seen c.in-RowAt.is c.row.ensures
 
 pub returns-in-Verdict : goal.returns-in-Verdict
-returns-in-Verdict g c = verdict_seen c.in-Verdict.is c.judge-ones.ensures.told c.judge-ones.ensures.long
+returns-in-Verdict g c =
+    let left = with_items_is c.in-Verdict.table c.verdict-ones.new.table (omega (arith, c.verdict-ones.auto.table, c.as_mut_slice.ensures.len)) in
+    let lent = c.as_mut_slice.ensures.value in
+    verdict_seen c.in-Verdict.is
+    (verdict_held (g.S.Sheet.shows c.args.sheet.now) _ _ c.verdict-ones.new.table _ c.verdict-ones.result lent left c.verdict-ones.ensures)
+    (omega (arith, ap (λ (xs : List ℕ). length xs) left, ap (λ (xs : List ℕ). length xs) lent, c.verdict-ones.auto.table))
 
 pub returns-in-Question : goal.returns-in-Question
 returns-in-Question g c = question_seen c.in-Question.is c.question.ensures

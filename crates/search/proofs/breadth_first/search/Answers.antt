@@ -1,13 +1,24 @@
--- A start beyond the last point marks none.
-use Rattle.std.proofs.Common.{◌≡◌, ℕ, ◌<◌, get_or, drop, subst, arith}
-use Rattle.search.proofs.Trails.{none_marked}
+-- A start beyond the last point marks none, and the marks stand at the front of the table.
+use Rattle.std.proofs.Common.{◌≡◌, ℕ, length, replicate, ap, sym, ◌∙◌, arith, length-take}
+use Rattle.std.proofs.lemmas.Slice.{drop-append-drop}
+use Rattle.search.proofs.Following.{none_marked, marked_front}
 use Rattle.search.proofs.breadth_first.search.Goals as goal
 
 pub returns-then-start-n : goal.returns-then-start-n
 returns-then-start-n g c =
     let w = c.args.web.now in
-    let z : (k : ℕ) → k < g.W.Web.size w → get_or c.clear.new.table k 0 ≡ 0 = λ k h. c.clear.ensures.zero k (omega arith) in (
+    let s : length c.follow.new.marks ≡ g.W.Web.size w = omega (arith, c.follow.auto.marks, length-take c.points-n.result c.args.table.now) in (
       omega arith,
-      none_marked (g.W.Web.size w) (g.W.Web.link w) c.args.start c.clear.new.table (omega arith) z,
-      subst (λ (n : ℕ). drop n c.clear.new.table ≡ drop n c.args.table.now) c.points-n.ensures c.clear.ensures.later,
+      marked_front (g.W.Web.size w) (g.W.Web.link w) c.args.start c.follow.new.marks _ s c.follow.ensures,
+      drop-append-drop c.points-n.result c.args.table.now c.follow.new.marks (g.W.Web.size w) (omega arith) (omega arith),
+    )
+
+pub returns-else-start-n : goal.returns-else-start-n
+returns-else-start-n g c =
+    let w = c.args.web.now in
+    let s : length c.fill.new.self ≡ g.W.Web.size w = omega (arith, length-take c.points-n.result c.args.table.now) in
+    let z : c.fill.new.self ≡ replicate (length c.fill.new.self) 0 = c.fill.ensures.after (λ y e. e) ∙ ap (λ (k : ℕ). replicate k 0) (sym c.fill.ensures.len) in (
+      omega arith,
+      marked_front (g.W.Web.size w) (g.W.Web.link w) c.args.start c.fill.new.self _ s (none_marked (g.W.Web.size w) (g.W.Web.link w) c.args.start c.fill.new.self s (omega arith) z),
+      drop-append-drop c.points-n.result c.args.table.now c.fill.new.self (g.W.Web.size w) (omega arith) (omega arith),
     )

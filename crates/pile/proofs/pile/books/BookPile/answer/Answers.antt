@@ -1,25 +1,10 @@
 use Rattle.std.proofs.Common.{refl}
-use Rattle.pile.specs.Lives.{entered, amended, no_trial, no_strike, no_restore, seen}
-use Rattle.pile.proofs.Steps.{called}
+use Rattle.pile.specs.Lives.{amended}
+use Rattle.pile.proofs.Steps.{called, no_own_call}
 use Rattle.pile.proofs.pile.books.BookPile.answer.Goals as goal
-
-pub returns-in-Enter : goal.returns-in-Enter
-returns-in-Enter c = called c.in-Enter.is (entered c.put.ensures)
 
 pub returns-in-Amend : goal.returns-in-Amend
 returns-in-Amend c = called c.in-Amend.is (amended c.amend.ensures)
 
-pub returns-in-Withdraw : goal.returns-in-Withdraw
-returns-in-Withdraw c = called c.in-Withdraw.is (no_trial refl)
-
-pub returns-in-Strike : goal.returns-in-Strike
-returns-in-Strike c = called c.in-Strike.is (no_strike refl)
-
-pub returns-in-Restore : goal.returns-in-Restore
-returns-in-Restore c = called c.in-Restore.is (no_restore refl)
-
-pub returns-in-Load : goal.returns-in-Load
-returns-in-Load c = called c.in-Load.is c.load_text.ensures
-
-pub returns-in-Look : goal.returns-in-Look
-returns-in-Look c = called c.in-Look.is (seen c.see.ensures)
+pub returns-in_default : goal.returns-in_default
+returns-in_default c = no_own_call _ _ _ _ (λ k row e. absurd (c.in_default.not-Amend k row e)) (λ e. refl) (λ k e. refl) (λ k e. refl) c.common_call.ensures
