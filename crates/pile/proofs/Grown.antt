@@ -4,10 +4,8 @@ use Rattle.std.proofs.lemmas.List.{append-nil, length-take-le}
 use Rattle.schema.specs.declared.row.Row.{Row}
 use Rattle.schema.specs.declared.faults.EnterFault.{EnterFault}
 use Rattle.schema.specs.declared.faults.EnterFault.TheVariants.{Full}
-use Rattle.schema.specs.declared.faults.LoadFault.{LoadFault}
-use Rattle.schema.specs.Loading.{Loaded}
 use Rattle.schema.specs.Sheets.{Shown, with_rows}
-use Rattle.pile.specs.Lives.{Entering, Loading}
+use Rattle.pile.specs.Lives.{Entering}
 use Rattle.pile.specs.Plain.{Plain, Lowest, Layer, trial, strike, layered, top, grown_from, grown}
 use Rattle.pile.specs.Strikes.{strike_shows}
 use Rattle.pile.specs.Trials.{trial_shows, shown_length}
@@ -44,7 +42,3 @@ pub put_fits : (p t q : Plain) (rows : List Row) (k : ℕ) (r : Row) (o : Result
 put_fits p t q rows k r (Ok u) e l room h = refl
 put_fits p t q rows k r (Err Full) e l room h =
     let open-yet = subst (λ (x : Plain). length (top x).rows < (top x).capacity) (sym e) (grown_room p rows k l room) in absurd (omega (arith, h.0))
-
--- a text that is not admitted leaves the pile as it was
-pub load_barred : (p : Plain) (s : Shown) (text : List ℕ) (f g : LoadFault) (r : Result Unit LoadFault) → s ≡ top p → r ≡ Err g → g ≡ f → Loaded s text (Err f) s → Loading p text r p
-load_barred p s text f g r t e same h = rw (e, same) (subst (λ (v : Shown). Loaded v text (Err f) v) t h, refl)

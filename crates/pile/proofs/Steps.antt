@@ -1,8 +1,6 @@
 -- One call on a part of a pile, from what the calls of the parts ensure.
-use Rattle.std.proofs.Common.{◌≡◌, ℕ, ◌+◌, ◌<◌, ◌≤◌, min, Bool, false, List, [], ◌∷◌, ◌++◌, length, Ok, Err, Result, refl, subst, arith}
+use Rattle.std.proofs.Common.{◌≡◌, ℕ, ◌+◌, ◌<◌, ◌≤◌, min, Bool, false, List, [], ◌∷◌, ◌++◌, length, Result, refl, subst, arith}
 use Rattle.schema.specs.declared.row.Row.{Row}
-use Rattle.schema.specs.declared.faults.EnterFault.{EnterFault}
-use Rattle.schema.specs.declared.faults.EnterFault.TheVariants.{Full}
 use Rattle.schema.specs.Sheets.{Shown}
 use Rattle.pile.specs.declared.faults.StrikeFault.{StrikeFault}
 use Rattle.pile.specs.declared.request.Answer.{Answer}
@@ -12,9 +10,9 @@ use Rattle.pile.specs.declared.request.Call.TheVariants as call
 use Rattle.pile.specs.declared.request.Look.{Look}
 use Rattle.pile.specs.declared.request.Request.{Request}
 use Rattle.pile.specs.declared.request.Sight.{Sight}
-use Rattle.pile.specs.Layers.{LayerEntered, is_own}
-use Rattle.pile.specs.Lives.{Sees, Entering, AtTop, Common, Step, Moment, Life, WholeLife, withdrawn, struck, seen, no_book, no_trial, no_strike, no_restore, here, below, no_part, begun, lived}
-use Rattle.pile.specs.Plain.{Plain, Layer, Kind, fresh, trial, strike, over, top, shown_by, is_book, is_trial, is_strike}
+use Rattle.pile.specs.Layers.{is_own}
+use Rattle.pile.specs.Lives.{Sees, AtTop, Common, Step, Moment, Life, WholeLife, withdrawn, struck, seen, no_book, no_trial, no_strike, no_restore, here, below, no_part, begun, lived}
+use Rattle.pile.specs.Plain.{Plain, Layer, Kind, fresh, trial, strike, over, top, is_book, is_trial, is_strike}
 use Rattle.pile.specs.Strikes.{Struck}
 
 -- a call told by an equation
@@ -60,16 +58,6 @@ not_own l m p q r c d a h same told =
     no_own_call (over l p) r c a (λ k row e. refl) (λ e. no_trial_own l p.layers (subst F e h.0)) (λ k e. no_strike_own l p.layers k (subst F e h.0))
     (λ k e. no_restore_own l p.layers k (subst F e h.0))
     (subst (λ (x : Plain). Common (over l x) c a r) same (subst (λ (x : Layer). Common (over x q) c a r) h.2 (subst (λ (x : Call). Common (over m q) x a r) h.1 told)))
-
--- a row entered into a layer
-pub layer_put : (p q : Plain) (s : Shown) (l m : Layer) (row : Row) (r : Result Unit EnterFault) → s ≡ top p → q ≡ p
-    → LayerEntered l s row r m → Entering (over l p) row r (over m q)
-layer_put p q s l m row (Ok u) t same h =
-    let k = subst (λ (v : Shown). length (shown_by l v).rows < (shown_by l v).capacity) t h.0 in
-    rw (same, h.1) (k, refl)
-layer_put p q s l m row (Err Full) t same h =
-    let k = subst (λ (v : Shown). (shown_by l v).capacity ≤ length (shown_by l v).rows) t h.0 in
-    rw (same, h.1) (k, refl)
 
 -- a trial's rows withdrawn
 pub trial_withdrawn : (p : Plain) (own after : List Row) (n : ℕ) → n ≡ length own → after ≡ []

@@ -18,6 +18,7 @@ abbrev pub LayerEntered : Layer → Shown → Row → Result Unit EnterFault →
 LayerEntered l s row (Ok u) m = (length (shown_by l s).rows < (shown_by l s).capacity) × (m ≡ grown_layer l (row ∷ []))
 LayerEntered l s row (Err Full) m = ((shown_by l s).capacity ≤ length (shown_by l s).rows) × (m ≡ l)
 
+-- only a trial has its rows withdrawn, and only a strike layer strikes and restores
 abbrev pub is_own : Layer → Call → Bool
 is_own (trial own) Withdraw = true
 is_own (strike struck) (Strike k) = true

@@ -25,15 +25,19 @@ pub trait Layer: Sized {
     fn fresh(heap: Global) -> Result<Self, AllocError>
         ensures { IfOk result (λ l. plain l ≡ fresh_layer kind) };
 
+    /// The most rows that the sheet with this layer over it can show.
     fn capacity<S: Sheet>(&self, below: &S) -> usize
         ensures { result ≡ (shown_by (plain self.now) (S.Sheet.shows below.now)).capacity };
 
+    /// The number of rows that it shows.
     fn len<S: Sheet>(&self, below: &S) -> usize
         ensures { result ≡ length (shown_by (plain self.now) (S.Sheet.shows below.now)).rows };
 
+    /// Row k of those that it shows, for any k.
     fn row<S: Sheet>(&self, below: &S, k: usize) -> Option<Row>
         ensures { result ≡ slice_get (shown_by (plain self.now) (S.Sheet.shows below.now)).rows k };
 
+    /// Puts a row at the end, where the layer has room for it.
     fn enter<S: Sheet>(&mut self, below: &S, row: Row) -> Result<(), EnterFault>
         ensures { LayerEntered (plain self.old) (S.Sheet.shows below.now) row result (plain self.new) };
 

@@ -12,7 +12,8 @@ use schema::row::Row;
 use schema::sheet::Sheet;
 use std::alloc::{AllocError, Global};
 
-/// Any sheet but a book, as the lowest of a pile.
+/// Any sheet but a book, as the lowest of a pile. It is a type of its own, since impls for every sheet would be impls for
+/// books and layered sheets too.
 #[derive(Drop)]
 pub struct Base<S> {
     pub sheet: S,
@@ -79,6 +80,7 @@ impl<S: Sheet> Pile for Base<S> {
         common_call(self, call)
     }
 
+    // one function for this call of every lowest sheet would lead back to the impl that calls it, and gets no proof
     fn call(&mut self, part: usize, call: Call) -> Answer {
         if part > 0 {
             Answer::NoPart(call)

@@ -2,7 +2,7 @@
 ghost use Rattle.std.specs.Prelude.{◌≡◌, ◌<◌};
 ghost use Rattle.pile.specs.Plain.{strike, strike_kind};
 ghost use Rattle.pile.specs.Standing.{shifted};
-ghost use Rattle.pile.specs.Strikes.{Restored, Struck, strike_keeps, struck_rows};
+ghost use Rattle.pile.specs.Strikes.{Restored, Struck, strike_bounded, struck_rows};
 
 use super::{Strike, StruckRows};
 use crate::faults::{RestoreFault, StrikeFault};
@@ -53,7 +53,7 @@ impl Layer for StruckRows {
 
     ghost kind = { strike_kind };
 
-    ghost keeps = { strike_keeps };
+    ghost keeps = { strike_bounded };
 
     fn fresh(heap: Global) -> Result<StruckRows, AllocError> {
         let struck = Vec::with_capacity(heap, MOST_STRUCK)?;

@@ -15,9 +15,6 @@ loop-request-init g c =
     let F = λ (xs : List Answer). Life g.row.P.Denot g.P.Part.plain (λ q. g.P.Sheet.shows q ∷ g.P.Part.under q) p [] xs p in
     (subst F (sym c.in_ok-answers.ensures.items) (begun new), search rules, refl)
 
-pub push_reserved-requires : goal.push_reserved-requires
-push_reserved-requires g c = omega (arith, c.loop-request.invariant.1, c.in-Some.ensures)
-
 pub loop-request-preserved : goal.loop-request-preserved
 loop-request-preserved g c =
     let q = c.call.new.self in
