@@ -18,12 +18,17 @@ pub trait Layer: Sized {
 
     ghost kind: { Kind };
 
+    // what holds of a layer when it is made: it stands for a new one
+    ghost is_new: { Self → Type 0 };
+
+    ghost starts: { (l : Self) → is_new l → plain l ≡ fresh_layer kind };
+
     // over a sheet it keeps the laws of every sheet
     ghost keeps: { (l : Self) (s : Shown) → Bounded s → Bounded (shown_by (plain l) s) };
 
     /// A new layer, with memory for all that it may come to hold.
     fn fresh(heap: Global) -> Result<Self, AllocError>
-        ensures { IfOk result (λ l. plain l ≡ fresh_layer kind) };
+        ensures { IfOk result (λ l. is_new l) };
 
     /// The most rows that the sheet with this layer over it can show.
     fn capacity<S: Sheet>(&self, below: &S) -> usize

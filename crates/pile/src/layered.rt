@@ -1,7 +1,7 @@
 //! A sheet with a layer over it.
 ghost use Rattle.std.specs.Prelude.{◌≡◌, IfOk, IfErr};
 ghost use Rattle.schema.specs.Sheets.{Entered};
-ghost use Rattle.pile.specs.Plain.{fresh_layer, shown_by};
+ghost use Rattle.pile.specs.Plain.{shown_by};
 ghost use Rattle.pile.specs.Layers.{LayerEntered};
 
 use crate::layer::Layer;
@@ -21,7 +21,7 @@ pub struct Layered<L, S> {
 impl<L: Layer, S> Layered<L, S> {
     /// A new layer over a sheet; where there is no memory for it, the sheet comes back.
     pub fn new(heap: Global, below: S) -> Result<Layered<L, S>, AllocFailed<S>>
-        ensures made { IfOk result (λ t. (t.below ≡ below) × (L.Layer.plain t.layer ≡ fresh_layer L.Layer.kind)) }
+        ensures made { IfOk result (λ t. (t.below ≡ below) × L.Layer.is_new t.layer) }
         ensures refused { IfErr result (λ y. y.value ≡ below) }
     {
         let Ok(layer) = L::fresh(heap) else {

@@ -1,5 +1,6 @@
 //! Striking and restoring rows, and what a strike layer shows.
-ghost use Rattle.std.specs.Prelude.{◌≡◌, ◌<◌};
+ghost use Rattle.std.specs.Prelude.{◌≡◌, ◌<◌, []};
+ghost use Rattle.std.proofs.Common.{ap};
 ghost use Rattle.pile.specs.Plain.{strike, strike_kind};
 ghost use Rattle.pile.specs.Standing.{shifted};
 ghost use Rattle.pile.specs.Strikes.{Restored, Struck, strike_bounded, struck_rows};
@@ -52,6 +53,10 @@ impl Layer for StruckRows {
     ghost plain = { λ l. strike l.struck.items };
 
     ghost kind = { strike_kind };
+
+    ghost is_new = { λ l. l.struck.items ≡ [] };
+
+    ghost starts = { λ l e. ap strike e };
 
     ghost keeps = { strike_bounded };
 

@@ -1,5 +1,6 @@
 //! Withdrawing a trial layer's rows, and what it shows.
 ghost use Rattle.std.specs.Prelude.{◌≡◌, [], length};
+ghost use Rattle.std.proofs.Common.{ap};
 ghost use Rattle.pile.specs.Plain.{trial, trial_kind};
 ghost use Rattle.pile.specs.Trials.{own_rows, trial_bounded};
 
@@ -29,6 +30,10 @@ impl Layer for OwnRows {
     ghost plain = { λ l. trial l.own.items };
 
     ghost kind = { trial_kind };
+
+    ghost is_new = { λ l. l.own.items ≡ [] };
+
+    ghost starts = { λ l e. ap trial e };
 
     ghost keeps = { trial_bounded };
 
