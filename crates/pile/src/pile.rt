@@ -27,6 +27,7 @@ pub trait Pile: Part + Sized {
     fn answer(&mut self, call: Call) -> Answer
         ensures { AtTop (Self.Part.plain self.old) call result (Self.Part.plain self.new) };
 
+    // Part and call come apart and not as a `Request`, since each pile asks of the part first and passes the call on.
     /// A call on any part, while the layers above it stay.
     fn call(&mut self, part: usize, call: Call) -> Answer
         ensures { Step (Self.Part.plain self.old) part call result (Self.Part.plain self.new) };

@@ -46,6 +46,7 @@ pub(crate) fn torn_arrows(sheet: &SoundSheet, arrows: &Arrows) -> Set64
 {
     let rows = sheet.rows();
     let mut found = Set64::EMPTY;
+    // by number, since a set names arrows and is no list
     for arrow in 0..ARROWS {
         let marks: [u8; ARROWS] = marks_from(arrows, arrow);
         if torn::<Arrows>(rows, &marks, &marks) {

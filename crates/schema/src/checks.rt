@@ -17,6 +17,7 @@ pub(crate) fn check_sound(rows: &[Row], classes: u16, arrows: u16) -> Result<(),
 {
     for (k, row) in rows.iter().enumerate() {
         if let Some(field) = unsound_field(*row, classes, arrows) {
+            // a cast, since `try_from` would add an error that cannot come
             return Err(SheetFault::UnsoundRow {
                 row: k as u16,
                 field,
@@ -33,6 +34,7 @@ pub(crate) fn check_caps(sheet: &SoundSheet) -> Result<(), CheckFault>
     let shared = shared_arrows(sheet);
     let rows = sheet.rows();
     for (k, row) in rows.iter().enumerate() {
+        // the letter is a byte and k a `usize`, as `Row` and the list have them
         if row.letter == b'K' && shared.has(usize::from(row.b) / 2) {
             return Err(CheckFault::Capped { row: k as u16 });
         }
@@ -47,6 +49,7 @@ pub(crate) fn shared_arrows(sheet: &SoundSheet) -> Set64
 {
     let mut shared = Set64::EMPTY;
     for row in sheet.rows() {
+        // a byte, as `Row` has it
         if row.letter == b'P' && row.a != row.b {
             shared.insert(usize::from(row.b));
         }

@@ -21,6 +21,7 @@ impl Clashes for Arrows {
     ghost apart = { arrows_apart };
 
     fn apart(row: Row) -> Option<(usize, usize)> {
+        // a byte, as `Row` has it
         match row.letter {
             b'Q' => Some((usize::from(row.a), usize::from(row.b))),
             _ => None,
@@ -35,6 +36,7 @@ impl Clashes for Descriptions {
     fn apart(row: Row) -> Option<(usize, usize)> {
         let one = 32 * usize::from(row.a);
         let two = 32 * usize::from(row.b);
+        // a byte, as `Row` has it
         match row.letter {
             b'X' => Some((one, two)),
             b'K' => Some((one, two + usize::from(row.n) + 1)),

@@ -17,7 +17,8 @@ use crate::marking::marks_from;
 use crate::schema::Schema;
 use std::marker::Model;
 
-/// The webs of a schema, and a byte for each key, 1 if it is empty. A contract sees the rows that they tell of.
+/// The webs of a schema, and a byte for each key, 1 if it is empty, as the search wrote them. A contract sees the rows
+/// that they tell of.
 #[derive(Drop)]
 pub(crate) struct Findings<'a> {
     schema: &'a Schema,

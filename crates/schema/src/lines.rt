@@ -38,6 +38,7 @@ pub(crate) fn header_line(bytes: &[u8]) -> Result<Header, LineFault>
     let [letter, a0, a1, a2, a3, rest @ ..] = bytes else {
         unreachable()
     };
+    // a byte, since a line may begin with any
     expect(*letter == b'H', 1, LETTER)?;
     let (classes, arrows, rows) = read_numbers([*a0, *a1, *a2, *a3], rest, 1)?;
     Ok(Header {
@@ -69,7 +70,7 @@ pub(crate) fn row_line(bytes: &[u8], line: u16, header: Header) -> Result<Row, L
     }
 }
 
-// Whether a letter is one of those that begin the line of a row.
+// Whether a letter is one of those that begin the line of a row. A byte, since a line may begin with any.
 fn begins_row(letter: u8) -> bool
     ensures { Decides result (RowLetter letter) }
 {
@@ -79,7 +80,7 @@ fn begins_row(letter: u8) -> bool
     }
 }
 
-// Passes a column that is as it should be.
+// Passes a column that is as it should be. Line and column come apart, since a fault is made only where one is wrong.
 fn expect(good: bool, line: u16, column: u16) -> Result<(), ColumnFault>
     ensures { MatchResult result (λ _. good ≡ true) (λ e. (e ≡ record { line = line; column = column }) × (good ≡ false)) }
 {

@@ -48,6 +48,7 @@ fn put_text(bytes: &mut [u8], sheet: &SoundSheet) -> usize
     ensures { Begun (text_of sheet.now.classes sheet.now.arrows sheet.now.rows.items) bytes.old result bytes.new }
 {
     let rows = sheet.rows();
+    // a cast, since `try_from` would add an error that cannot come
     put_line(
         bytes,
         0,

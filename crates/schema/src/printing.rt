@@ -22,9 +22,11 @@ pub(crate) fn put_names(bytes: &mut [u8], at: usize, letter: u8, table: &[u8]) -
     ensures written { bytes.new ≡ spliced at (name_lines letter (ones_from 0 table.now)) bytes.old }
     ensures end { result ≡ at + length (name_lines letter (ones_from 0 table.now)) }
 {
+    // counted, since only some of the places get a line
     let mut end = at;
     for (k, byte) in table.iter().enumerate() {
         if *byte == 1 {
+            // a cast, since `try_from` would add an error that cannot come
             put_line(bytes, end, letter, k as u16, 0, 0);
             end += LINE_BYTES;
         }
@@ -67,5 +69,6 @@ fn column(v: u16) -> u8
 fn digit(v: u16) -> u8
     ensures { result ≡ 48 + v % 10 }
 {
+    // a cast, since `try_from` would add an error that cannot come
     b'0' + (v % 10) as u8
 }

@@ -38,6 +38,7 @@ fn uncountable(schema: &Schema, asked: Row) -> bool
     requires { Sound 64 32 asked }
     ensures { Tells result (Uncountable schema.now.sheet.rows.items asked) }
 {
+    // a byte, as `Row` has it
     asked.letter == b'F'
         && asked.n >= 2
         && shared_arrows(&schema.sheet).has(usize::from(asked.b) / 2)
@@ -52,6 +53,7 @@ fn answer(schema: &Schema, asked: Row) -> bool
     let a = usize::from(asked.a);
     let b = usize::from(asked.b);
     let n = usize::from(asked.n);
+    // a byte, as `Row` has it
     match asked.letter {
         b'S' => found.leads(32 * a, 32 * b),
         b'X' => found.parted(32 * a, 32 * b),

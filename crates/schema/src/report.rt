@@ -15,7 +15,7 @@ use crate::verdict::verdict;
 /// The bytes of the longest report: a line, and one for each class and each arrow.
 pub const REPORT_BYTES: usize = LINE_BYTES * (1 + TABLE_BYTES);
 
-// The bytes of a verdict's table: one for each class and each arrow.
+// The bytes of a verdict's table: one for each class and each arrow. Casts, since a constant calls no `from`.
 const TABLE_BYTES: usize = MOST_CLASSES as usize + MOST_ARROWS as usize;
 
 /// Writes the report on a text over the first bytes, and answers its length.
@@ -62,6 +62,7 @@ fn list(bytes: &mut [u8], classes: &[u8], arrows: &[u8]) -> usize
     requires { (length classes.now ≤ 64) × ((length arrows.now ≤ 32) × (1358 ≤ length bytes.old)) }
     ensures { Begun (listing (ones_from 0 classes.now) (ones_from 0 arrows.now)) bytes.old result bytes.new }
 {
+    // casts, since `try_from` would add an error that cannot come
     let class_count = count_ones(classes) as u16;
     let arrow_count = count_ones(arrows) as u16;
     put_line(bytes, 0, b'V', class_count, arrow_count, 0);

@@ -18,6 +18,7 @@ pub(crate) fn list_rivals(sheet: &SoundSheet, links: &Descriptions) -> [Set64; 6
     for row in sheet.rows() {
         let a = usize::from(row.a);
         let b = usize::from(row.b);
+        // a byte, as `Row` has it
         match row.letter {
             b'X' => rivals[a].insert(b),
             b'K' => rivals[a].join(needing_more(links, b, row.n)),

@@ -3,17 +3,9 @@
 /// One letter and three numbers; what they mean is told by the letter (see `letters`).
 #[derive(Clone, Copy, PartialEq, Eq, Debug, Default)]
 pub struct Row {
-    /// Any byte, since a row may be unsound.
+    /// Any byte, since a row may be unsound; so it is bytes that code compares and matches.
     pub letter: u8,
     pub a: u16,
     pub b: u16,
     pub n: u16,
 }
-
-/// What stands in the places of a buffer that no row was put into.
-pub(crate) const BLANK: Row = Row {
-    letter: 0,
-    a: 0,
-    b: 0,
-    n: 0,
-};

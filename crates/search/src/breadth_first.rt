@@ -16,6 +16,7 @@ pub enum SearchFault {
 }
 
 impl SearchFault {
+    // A method, since `u16::from` would not say what the number is.
     /// The number of the refusal.
     pub fn number(&self) -> u16
         ensures { result ≡ search_number self.now }

@@ -34,6 +34,7 @@ impl Descriptions {
     {
         let a = usize::from(row.a);
         let b = usize::from(row.b);
+        // a byte, as `Row` has it
         match row.letter {
             b'S' => self.supers[a].insert(b),
             b'D' => self.domains[a].insert(b),

@@ -105,6 +105,7 @@ fn read_rows(text: &[u8], header: Header) -> Result<ArrayVec<Row, MOST_ROWS>, Te
 {
     let mut rows = ArrayVec::new();
     for (i, line) in text[LINE_BYTES..].chunks_exact(LINE_BYTES).enumerate() {
+        // a cast, since `try_from` would add an error that cannot come
         let number = (i + 2) as u16;
         let row = row_line(line, number, header)?;
         rows.push(row);
