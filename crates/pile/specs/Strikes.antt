@@ -51,11 +51,10 @@ unstruck_few i struck (r ∷ rs) =
     elim (among i struck) as (λ b. length (cond b U (r ∷ U)) ≤ suc (length rs)) [ true ↦ omega arith | false ↦ suc-le-suc h ]
 
 -- a strike layer keeps the laws of every sheet
-pub strike_bounded : (t : StruckRows) (s : Shown) → Bounded s → Bounded (strike_shows s (vec_items t.struck))
-strike_bounded t s b =
-    record {
-      few_classes = b.few_classes;
-      few_arrows = b.few_arrows;
-      few_rows = omega arith;
-      few_places = omega (arith, unstruck_few 0 (vec_items t.struck) s.rows, b.few_rows, b.few_places);
-    }
+pub strike_bounded : (s : Shown) (struck : List ℕ) → Bounded s → Bounded (strike_shows s struck)
+strike_bounded s struck b = record {
+  few_classes = b.few_classes;
+  few_arrows = b.few_arrows;
+  few_rows = omega arith;
+  few_places = omega (arith, unstruck_few 0 struck s.rows, b.few_rows, b.few_places);
+}

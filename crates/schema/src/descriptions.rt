@@ -15,8 +15,7 @@ use search::web::Web;
 /// How many points there are, whatever the counts of the schema.
 pub(crate) const POINTS: usize = 2048;
 
-/// The links of some rows, as sets of classes, ends and arrows. Each kind of link has its own table: a struct for each
-/// class would take in three of the five, and nothing reads the three together.
+/// The links of some rows, as sets of classes, ends and arrows, in a table for each kind of link.
 #[derive(Drop)]
 pub(crate) struct Descriptions {
     // of a class: the classes that it lies in

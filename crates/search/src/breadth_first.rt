@@ -7,16 +7,17 @@ ghost use Rattle.search.specs.Trail.{Grows};
 
 use crate::trail::Trail;
 use crate::web::Web;
+use thiserror::Error;
 
 /// Why a search is refused.
-#[derive(Clone, Copy, PartialEq, Eq, Debug)]
+#[derive(Clone, Copy, PartialEq, Eq, Debug, Error)]
 pub enum SearchFault {
     /// The table has fewer bytes than the web has points.
+    #[error("the table is too short")]
     TooShort,
 }
 
 impl SearchFault {
-    // A method, since `u16::from` would not say what the number is.
     /// The number of the refusal.
     pub fn number(&self) -> u16
         ensures { result ≡ search_number self.now }

@@ -58,7 +58,7 @@ impl Layer for StruckRows {
 
     ghost starts = { λ l e. ap strike e };
 
-    ghost keeps = { strike_bounded };
+    ghost keeps = { λ l s. strike_bounded s l.struck.items };
 
     fn fresh(heap: Global) -> Result<StruckRows, AllocError> {
         let struck = Vec::with_capacity(heap, MOST_STRUCK)?;

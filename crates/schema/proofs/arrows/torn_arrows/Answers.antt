@@ -1,5 +1,4 @@
-use Rattle.std.proofs.Common.{◌≡◌, ℕ, ◌+◌, List, sym, subst, arith}
-use Rattle.schema.specs.declared.row.Row.{Row}
+use Rattle.std.proofs.Common.{◌+◌, sym, subst}
 use Rattle.schema.specs.Masks.{Gathers}
 use Rattle.schema.specs.Keys.{ArrowReaches, ArrowTorn}
 use Rattle.schema.specs.Points.{Told}
@@ -30,9 +29,3 @@ loop-arrow-preserved c =
           (gathers_past c.loop-arrow.invariant
           (λ t. v.if-torn.ensures (arrow_torn_by rows sound p p marks marks told told t)))
     ]
-
-pub returns : goal.returns
-returns c =
-    let e : c.loop-arrow.arrow ≡ 32 = omega arith in
-    let r = c.rows-rows in
-    subst (λ (rs : List Row). Gathers (ArrowTorn rs) 32 c.loop-arrow.found) r.ensures.same (subst (λ (n : ℕ). Gathers (ArrowTorn r.result.now) n c.loop-arrow.found) e c.loop-arrow.invariant)

@@ -1,5 +1,5 @@
 use Rattle.std.proofs.Common.{ℕ, List, [], ◌∷◌, ◌++◌, get_or, take, sym, subst, arith}
-use Rattle.std.proofs.lemmas.List.{take_more, take_all}
+use Rattle.std.proofs.lemmas.List.{take_more}
 use Rattle.schema.specs.declared.row.Row.{Row}
 use Rattle.schema.specs.Checks.{Shared}
 use Rattle.schema.specs.Columns.{blank_row}
@@ -38,9 +38,3 @@ loop-row-preserved c =
           [ else-row-eq80-via-then-row-eq80+else-row u ↦ (λ _. u.if-row.false) | else-row-eq80-via-else-row-eq80 u ↦ (λ x. absurd (u.if-row-eq80.false x)) ])
           c.loop-row.invariant)
     ])
-
-pub returns : goal.returns
-returns c =
-    let Whole = λ (rs : List Row). Shared rs c.loop-row.shared in
-    let rows = c.rows-row-items in
-    subst Whole rows.ensures.same (subst Whole (take_all c.loop-row.row-index rows.result.now c.loop-row-test.false) c.loop-row.invariant)

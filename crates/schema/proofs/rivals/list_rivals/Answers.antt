@@ -1,5 +1,5 @@
 use Rattle.std.proofs.Common.{◌≡◌, ℕ, ◌<◌, List, [], ◌∷◌, ◌++◌, length, get_or, take, sym, ap, ◌∙◌, subst, inl, inr, ⊎_elim, arith}
-use Rattle.std.proofs.lemmas.List.{get_or_default, take_more, take_all}
+use Rattle.std.proofs.lemmas.List.{get_or_default, take_more}
 use Rattle.schema.specs.declared.descriptions.Descriptions.{Descriptions}
 use Rattle.schema.specs.declared.row.Row.{Row}
 use Rattle.schema.specs.Masks.{Member, Unites, Gathers}
@@ -83,9 +83,3 @@ loop-row-preserved c =
           subst (RivalSets w (take i rows ++ r ∷ [])) (sym v.rivals-is)
           (rivals_other w (take i rows) r sets c.loop-row.invariant (λ b l x. letters w r b (λ e. omega arith) (λ e. omega arith) x))
     ])
-
-pub returns : goal.returns
-returns c =
-    let Listed = λ (rs : List Row). RivalSets c.args.links.now rs c.loop-row.rivals in
-    let rows = c.rows-row-items in
-    subst Listed rows.ensures.same (subst Listed (take_all c.loop-row.row-index rows.result.now c.loop-row-test.false) c.loop-row.invariant)

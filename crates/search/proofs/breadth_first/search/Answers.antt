@@ -4,15 +4,6 @@ use Rattle.std.proofs.lemmas.Slice.{drop-append-drop}
 use Rattle.search.proofs.Following.{none_marked, marked_front}
 use Rattle.search.proofs.breadth_first.search.Goals as goal
 
-pub returns-then-start-n : goal.returns-then-start-n
-returns-then-start-n g c =
-    let w = c.args.web.now in
-    let s : length c.follow.new.marks ≡ g.W.Web.size w = omega (arith, c.follow.auto.marks, length-take c.points-n.result c.args.table.now) in (
-      omega arith,
-      marked_front (g.W.Web.size w) (g.W.Web.link w) c.args.start c.follow.new.marks _ s c.follow.ensures,
-      drop-append-drop c.points-n.result c.args.table.now c.follow.new.marks (g.W.Web.size w) (omega arith) (omega arith),
-    )
-
 pub returns-else-start-n : goal.returns-else-start-n
 returns-else-start-n g c =
     let w = c.args.web.now in

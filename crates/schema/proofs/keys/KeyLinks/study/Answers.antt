@@ -3,9 +3,6 @@ use Rattle.schema.specs.Masks.{Gathers}
 use Rattle.schema.proofs.Studied.{key_known}
 use Rattle.schema.proofs.keys.KeyLinks.study.Goals as goal
 
-pub marked-classes-requires : goal.marked-classes-requires
-marked-classes-requires c = omega (arith, length-take 64 c.marks_from-marks.result)
-
 pub returns : goal.returns
 returns c rows sound uncapped built =
     let marks = c.marks_from-marks.result in

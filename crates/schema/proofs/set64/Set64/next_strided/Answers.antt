@@ -1,18 +1,8 @@
 use Rattle.search.specs.Leads.{NextLink}
 use Rattle.std.proofs.Common.{sym, subst}
 use Rattle.schema.specs.Masks.{Strided}
-use Rattle.schema.proofs.Strides.{strided_none, strided_some, strided_past}
+use Rattle.schema.proofs.Strides.{strided_none}
 use Rattle.schema.proofs.set64.Set64.next_strided.Goals as goal
-
-pub returns-then-found-end : goal.returns-then-found-end
-returns-then-found-end g c =
-    strided_some g.row.STRIDE c.args.offset c.requires.within c.args.self c.args.at c.args.end c.requires.known c.in_ok-found.field-0 c.in_ok-found.ensures
-    c.if-found-end.true
-
-pub returns-else-found-end : goal.returns-else-found-end
-returns-else-found-end g c =
-    strided_past g.row.STRIDE c.args.offset c.requires.within c.args.self c.args.at c.args.end c.requires.known c.in_ok-found.field-0 c.in_ok-found.ensures
-    c.if-found-end.false
 
 pub returns-in_err-found : goal.returns-in_err-found
 returns-in_err-found g c =
