@@ -14,7 +14,8 @@ pub enum Lowest {
     Text(Vec<u8>),
 }
 
-/// The titles are those of the lowest sheet and then of each step: the number of its line, and the words as they were written.
+/// The titles are those of the lowest sheet and then of each step: the number of its line, and the words as they were
+/// written. They stand apart from the steps, since `live` takes those as they are.
 #[derive(Drop)]
 pub struct Script {
     pub lowest: Lowest,
