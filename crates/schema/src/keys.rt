@@ -200,18 +200,6 @@ pub(crate) fn empty_keys(schema: &Schema) -> [u8; 129]
     marks_from(&Keys::survey(schema), KEYS)
 }
 
-/// The point of a key in the web of descriptions.
-pub(crate) fn key_point(key: usize) -> usize
-    requires { key < 128 }
-    ensures { result ≡ point (keyed key) }
-{
-    if key < 64 {
-        32 * key
-    } else {
-        32 * (key - 64) + 1
-    }
-}
-
 // The set of the x for which byte x is 1.
 fn marked(marks: &[u8]) -> Set64
     requires { length marks.now ≤ 64 }

@@ -1,6 +1,5 @@
-use Rattle.std.proofs.Common.{◌+◌, sym, refl, arith}
+use Rattle.std.proofs.Common.{sym, arith}
 use Rattle.schema.specs.Rules.{S, X, D, F, K, P, Q}
-use Rattle.schema.specs.Webs.{cls, mark}
 use Rattle.schema.proofs.Building.{row_is, fits_at}
 use Rattle.schema.proofs.question.answer.Goals as goal
 
@@ -14,7 +13,7 @@ returns-in-83 c =
     (record {
       rule = S a b;
       writes = sym (row_is r 83 a b 0 c.in-83.is (sym c.from-a.ensures) (sym c.from-b.ensures) (omega (arith, f.3)));
-      told = c.leads.ensures (cls a) (cls b) (omega (arith, f.0, c.from-a.ensures)) (omega (arith, f.1, c.from-b.ensures)) refl refl;
+      told = rw (← c.class.ensures, ← c.class-in-83.ensures) c.leads.ensures;
     })
 
 pub returns-in-88 : goal.returns-in-88
@@ -27,7 +26,7 @@ returns-in-88 c =
     (record {
       rule = X a b;
       writes = sym (row_is r 88 a b 0 c.in-88.is (sym c.from-a.ensures) (sym c.from-b.ensures) (omega (arith, f.3)));
-      told = c.parted.ensures (cls a) (cls b) (omega (arith, f.0, c.from-a.ensures)) (omega (arith, f.1, c.from-b.ensures)) refl refl;
+      told = rw (← c.class-in-88.ensures, ← c.class-in-88-2.ensures) c.parted.ensures;
     })
 
 pub returns-in-68 : goal.returns-in-68
@@ -40,7 +39,7 @@ returns-in-68 c =
     (record {
       rule = D a b;
       writes = sym (row_is r 68 a b 0 c.in-68.is (sym c.from-a.ensures) (sym c.from-b.ensures) (omega (arith, f.3)));
-      told = c.leads-in-68.ensures (mark a 1) (cls b) (omega (arith, f.0, c.from-a.ensures), omega arith, omega arith) (omega (arith, f.1, c.from-b.ensures)) refl refl;
+      told = rw (← c.mark.ensures, ← c.class-in-68.ensures) c.leads-in-68.ensures;
     })
 
 pub returns-in-70 : goal.returns-in-70
@@ -54,7 +53,7 @@ returns-in-70 c =
     (record {
       rule = F a b n;
       writes = sym (row_is r 70 a b n c.in-70.is (sym c.from-a.ensures) (sym c.from-b.ensures) (sym c.from-n.ensures));
-      told = c.leads-in-70.ensures (cls a) (mark b n) (omega (arith, f.0, c.from-a.ensures)) (omega (arith, f.1, c.from-b.ensures), omega (arith, f.2, c.from-n.ensures), omega (arith, f.3, c.from-n.ensures)) refl refl;
+      told = rw (← c.class-in-70.ensures, ← c.mark-in-70.ensures) c.leads-in-70.ensures;
     })
 
 pub returns-in-75 : goal.returns-in-75
@@ -68,7 +67,7 @@ returns-in-75 c =
     (record {
       rule = K a b n;
       writes = sym (row_is r 75 a b n c.in-75.is (sym c.from-a.ensures) (sym c.from-b.ensures) (sym c.from-n.ensures));
-      told = c.parted-in-75.ensures (cls a) (mark b (n + 1)) (omega (arith, f.0, c.from-a.ensures)) (omega (arith, f.1, c.from-b.ensures), omega arith, omega (arith, f.3, c.from-n.ensures)) refl (omega arith);
+      told = rw (← c.class-in-75.ensures, ← c.mark-in-75.ensures) c.parted-in-75.ensures;
     })
 
 pub returns-in-80 : goal.returns-in-80
