@@ -2,11 +2,11 @@ use Rattle.std.proofs.Common.{sym, subst, rules}
 use Rattle.std.proofs.lemmas.Iterator.{cases_from_any, YieldsList-from_slice}
 use Rattle.std.proofs.lemmas.Iterator.Adapters.{serves_from_places}
 use Rattle.schema.specs.declared.row.Row.{Row}
+use Rattle.schema.specs.Rows.{Sound}
 use Rattle.schema.specs.Keys.{BothMarked}
 use Rattle.schema.specs.Columns.{blank_row}
 use Rattle.schema.proofs.Anys.{tells_any}
 use Rattle.schema.proofs.Members.{∈_at}
-use Rattle.schema.specs.Rows.{Sound}
 use Rattle.schema.proofs.Signs.{tells_same}
 use Rattle.schema.proofs.clashes.torn.Goals as goal
 
