@@ -1,9 +1,8 @@
 -- From what the rows tell of a rule to the answer.
-use Rattle.std.proofs.Common.{◌≡◌, ℕ, ◌+◌, ◌*◌, ◌<◌, Bool, List, sym, refl, subst, inl, inr, arith}
+use Rattle.std.proofs.Common.{◌≡◌, ℕ, ◌+◌, ◌*◌, Bool, List, sym, refl, subst, inl, inr, arith}
 use Rattle.schema.specs.declared.row.Row.{Row}
 use Rattle.schema.specs.Rows.{Sound}
 use Rattle.schema.specs.Rules.{Rule, S, X, D, F, K, P, Q, row, arrow}
-use Rattle.schema.specs.Points.{Placed}
 use Rattle.schema.specs.Webs.{mark, ArrowLink, ArrowApart, Clashing, arr, Empty, of_end, of_arrow}
 use Rattle.schema.specs.Questions.{EmptyDescription, Parted, Yes, Countable}
 use Rattle.schema.specs.Worlds.{Fulfils}
@@ -48,13 +47,6 @@ module _ (c p : ℕ) (rows : List Row) (ok : Passes c p rows) where
         everywhere = everywhere ρ s n b t.told;
         one_world = (one.0, one.1, λ e. one.1.rule_broken ρ s n (tells_no t.told e));
       }
-
--- the ends of an arrow have points
-pub tail_placed : (p : ℕ) → p < 32 → Placed (mark (2 * p) 1)
-tail_placed p h = (omega arith, omega arith, omega arith)
-
-pub head_placed : (p : ℕ) → p < 32 → Placed (mark (2 * p + 1) 1)
-head_placed p h = (omega arith, omega arith, omega arith)
 
 -- two arrows are parted by themselves, by their tails or by their heads
 module _ (rows : List Row) (p q : ℕ) where

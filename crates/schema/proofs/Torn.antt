@@ -1,5 +1,5 @@
 -- Two points that a row sets apart, one marked from each of two starts: the starts lead to two that clash.
-use Rattle.std.proofs.Common.{◌≡◌, ℕ, ◌+◌, ◌*◌, ◌<◌, ◌≤◌, Bool, true, false, cond, eqb, ◌⊎◌, List, get_or, Some, None, Option, sym, refl, ap, ◌∙◌, subst, inl, inr, ⊎_elim, arith}
+use Rattle.std.proofs.Common.{◌≡◌, ℕ, ◌+◌, ◌<◌, ◌≤◌, Bool, true, false, cond, eqb, ◌⊎◌, List, get_or, Some, None, Option, sym, refl, ap, ◌∙◌, subst, inl, inr, ⊎_elim, arith}
 use Rattle.std.proofs.lemmas.Bool.{cases_lt, eqb-true}
 use Rattle.search.specs.Leads.{Leads}
 use Rattle.search.proofs.Trails.{leads_then}
@@ -74,9 +74,9 @@ module _ (rows : List Row) (sound : AllSound 64 32 rows) (d u : Description) (fi
       let r = t.by in
       let b = t.both in
       ⊎_elim by_x by_k
-      (took_either b.one b.two (eqb r.letter 88) (eqb r.letter 75) (32 * r.a) (32 * r.b) (32 * r.a) (32 * r.b + r.n + 1) b.apart)
+      (took_either b.one b.two (eqb r.letter 88) (eqb r.letter 75) (point (cls r.a)) (point (cls r.b)) (point (cls r.a)) (point (mark r.b (r.n + 1))) b.apart)
     where
-      by_x : (eqb t.by.letter 88 ≡ true) × (32 * t.by.a ≡ t.both.one) × (32 * t.by.b ≡ t.both.two) → Clashing (Link rows) (Apart rows) d u
+      by_x : (eqb t.by.letter 88 ≡ true) × (point (cls t.by.a) ≡ t.both.one) × (point (cls t.by.b) ≡ t.both.two) → Clashing (Link rows) (Apart rows) d u
       by_x c =
           let r = t.by in
           let l : r.letter ≡ 88 = eqb-true r.letter 88 c.0 in
@@ -84,13 +84,13 @@ module _ (rows : List Row) (sound : AllSound 64 32 rows) (d u : Description) (fi
           let has : Has rows (X r.a r.b) = subst (λ (s : Row). s ∈ rows) (sym (row_is r 88 r.a r.b 0 l refl refl (omega (arith, f.3)))) t.stands in
           both_reached (cls r.a) (cls r.b) t.both.one t.both.two f.0 f.1 c.1 c.2 (by_X has) t.both.marked
 
-      by_k : (eqb t.by.letter 75 ≡ true) × (32 * t.by.a ≡ t.both.one) × (32 * t.by.b + t.by.n + 1 ≡ t.both.two) → Clashing (Link rows) (Apart rows) d u
+      by_k : (eqb t.by.letter 75 ≡ true) × (point (cls t.by.a) ≡ t.both.one) × (point (mark t.by.b (t.by.n + 1)) ≡ t.both.two) → Clashing (Link rows) (Apart rows) d u
       by_k c =
           let r = t.by in
           let l : r.letter ≡ 75 = eqb-true r.letter 75 c.0 in
           let f = fits_at r 75 l (sound r t.stands) in
           let has : Has rows (K r.a r.b r.n) = subst (λ (s : Row). s ∈ rows) (sym (row_is r 75 r.a r.b r.n l refl refl refl)) t.stands in
-          both_reached (cls r.a) (mark r.b (r.n + 1)) t.both.one t.both.two f.0 (omega (arith, f.1), omega arith, omega (arith, f.3)) c.1 (omega (arith, c.2))
+          both_reached (cls r.a) (mark r.b (r.n + 1)) t.both.one t.both.two f.0 (omega (arith, f.1), omega arith, omega (arith, f.3)) c.1 c.2
           (by_K has (omega arith)) t.both.marked
 
   -- two descriptions that clash are marked, and their row stands; a cap clashes with the first mark above it
@@ -100,30 +100,30 @@ module _ (rows : List Row) (sound : AllSound 64 32 rows) (d u : Description) (fi
       record {
         by = row (X a b);
         stands = h;
-        both = record { one = 32 * a; two = 32 * b; apart = refl; marked = inl (bit_holds (from-d (cls a) f.0) l, bit_holds (from-u (cls b) f.1) m) };
+        both = record { one = point (cls a); two = point (cls b); apart = refl; marked = inl (bit_holds (from-d (cls a) f.0) l, bit_holds (from-u (cls b) f.1) m) };
       }
   clashes_torn (x, y, l, m, inr (by_X {a} {b} h)) =
       let f = sound (row (X a b)) h in
       record {
         by = row (X a b);
         stands = h;
-        both = record { one = 32 * a; two = 32 * b; apart = refl; marked = inr (bit_holds (from-d (cls b) f.1) l, bit_holds (from-u (cls a) f.0) m) };
+        both = record { one = point (cls a); two = point (cls b); apart = refl; marked = inr (bit_holds (from-d (cls b) f.1) l, bit_holds (from-u (cls a) f.0) m) };
       }
   clashes_torn (x, y, l, m, inl (by_K {a} {e} {n} {m = k} h o)) =
       let f = sound (row (K a e n)) h in
       let low : Leads (Link rows) u (mark e (n + 1)) = lower_mark rows u e (n + 1) k (omega arith) (omega arith) m in
-      let at : get_or second (32 * e + (n + 1)) 0 ≡ 1 = bit_holds (from-u (mark e (n + 1)) (omega (arith, f.1), omega arith, omega (arith, f.3))) low in
+      let at : get_or second (point (mark e (n + 1))) 0 ≡ 1 = bit_holds (from-u (mark e (n + 1)) (omega (arith, f.1), omega arith, omega (arith, f.3))) low in
       record {
         by = row (K a e n);
         stands = h;
-        both = record { one = 32 * a; two = 32 * e + n + 1; apart = refl; marked = inl (bit_holds (from-d (cls a) f.0) l, moved second (omega arith) at) };
+        both = record { one = point (cls a); two = point (mark e (n + 1)); apart = refl; marked = inl (bit_holds (from-d (cls a) f.0) l, at) };
       }
   clashes_torn (x, y, l, m, inr (by_K {a} {e} {n} {m = k} h o)) =
       let f = sound (row (K a e n)) h in
       let low : Leads (Link rows) d (mark e (n + 1)) = lower_mark rows d e (n + 1) k (omega arith) (omega arith) l in
-      let at : get_or first (32 * e + (n + 1)) 0 ≡ 1 = bit_holds (from-d (mark e (n + 1)) (omega (arith, f.1), omega arith, omega (arith, f.3))) low in
+      let at : get_or first (point (mark e (n + 1))) 0 ≡ 1 = bit_holds (from-d (mark e (n + 1)) (omega (arith, f.1), omega arith, omega (arith, f.3))) low in
       record {
         by = row (K a e n);
         stands = h;
-        both = record { one = 32 * a; two = 32 * e + n + 1; apart = refl; marked = inr (moved first (omega arith) at, bit_holds (from-u (cls a) f.0) m) };
+        both = record { one = point (cls a); two = point (mark e (n + 1)); apart = refl; marked = inr (at, bit_holds (from-u (cls a) f.0) m) };
       }

@@ -1,16 +1,14 @@
 -- What is found out for a question. For inner contracts: no call's promise rests on it.
-use Rattle.std.specs.Prelude.{◌≡◌, ℕ, ◌<◌, Bool, ◌⊎◌, List, slice_index_or}
-use Rattle.search.specs.Leads.{Leads}
+use Rattle.std.specs.Prelude.{◌≡◌, ℕ, ◌<◌, Bool, List, slice_index_or}
 use Rattle.schema.specs.declared.row.Row.{Row}
 use Rattle.schema.specs.declared.arrows.Arrows.{Arrows}
 use Rattle.schema.specs.declared.descriptions.Descriptions.{Descriptions}
 use Rattle.schema.specs.Rows.{AllSound}
 use Rattle.schema.specs.Rules.{Rule, row}
-use Rattle.schema.specs.Points.{point, Placed, Told, Built}
+use Rattle.schema.specs.Points.{point, Told, Built}
 use Rattle.schema.specs.Keys.{keyed, EmptyKeys}
 use Rattle.schema.specs.Verdicts.{Tells}
-use Rattle.schema.specs.Webs.{Description, Link}
-use Rattle.schema.specs.Questions.{EmptyDescription, Parted, Yes}
+use Rattle.schema.specs.Questions.{Yes}
 
 -- the webs of sound rows, and the keys that are empty
 pub record Found (rows : List Row) (web : Descriptions) (arrows : Arrows) (empty : List ℕ) : Type 0 where
@@ -25,15 +23,6 @@ pub record MarkedEmpty (marks empty : List ℕ) : Type 0 where
   pub small : key < 128
   pub marked : slice_index_or marks (point (keyed key)) 0 ≡ 1
   pub is : slice_index_or empty key 0 ≡ 1
-
--- a test tells of the descriptions at two points whether the first is empty or leads to the second
-abbrev pub TellsLeads : List Row → ℕ → ℕ → Bool → Type 0
-TellsLeads rows from to r =
-    (d u : Description) → Placed d → Placed u → from ≡ point d → to ≡ point u → Tells r (EmptyDescription rows d ⊎ Leads (Link rows) d u)
-
--- a test tells of the descriptions at two points whether they are parted
-abbrev pub TellsParted : List Row → ℕ → ℕ → Bool → Type 0
-TellsParted rows one two r = (d u : Description) → Placed d → Placed u → one ≡ point d → two ≡ point u → Tells r (Parted rows d u)
 
 -- a test answers the rule that a row writes
 pub record TellsYes (rows : List Row) (asked : Row) (answer : Bool) : Type 0 where

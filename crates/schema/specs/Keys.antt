@@ -1,6 +1,6 @@
 -- The descriptions that decide what is empty, and how the code finds it. For inner contracts: no call's promise
 -- rests on it.
-use Rattle.std.specs.Prelude.{◌≡◌, ℕ, ◌+◌, ◌-◌, ◌*◌, ◌/◌, ◌%◌, ◌<◌, ◌≤◌, true, false, cond, ◌⊎◌, List, Some, None, Option, ◌==◌, nat_lt, slice_index, slice_index_or}
+use Rattle.std.specs.Prelude.{◌≡◌, ℕ, ◌+◌, ◌-◌, ◌/◌, ◌%◌, ◌<◌, ◌≤◌, true, false, cond, ◌⊎◌, List, Some, None, Option, ◌==◌, nat_lt, slice_index, slice_index_or}
 use Rattle.search.specs.Leads.{Leads}
 use Rattle.schema.specs.declared.row.Row.{Row}
 use Rattle.schema.specs.declared.arrows.Arrows.{Arrows}
@@ -38,7 +38,7 @@ arrows_apart r = cond (r.letter == 81) (Some (r.a, r.b)) None
 -- and those of the web of descriptions
 abbrev pub descriptions_apart : Row → Option (ℕ × ℕ)
 descriptions_apart r =
-    cond (r.letter == 88) (Some (32 * r.a, 32 * r.b)) (cond (r.letter == 75) (Some (32 * r.a, 32 * r.b + r.n + 1)) None)
+    cond (r.letter == 88) (Some (point (cls r.a), point (cls r.b))) (cond (r.letter == 75) (Some (point (cls r.a), point (mark r.b (r.n + 1)))) None)
 
 -- the row sets two points apart, one marked in each table, either way round
 pub record BothMarked (points : Row → Option (ℕ × ℕ)) (r : Row) (first second : List ℕ) : Type 0 where

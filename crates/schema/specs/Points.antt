@@ -1,5 +1,5 @@
 -- The links that the code follows between the 2,048 points. For inner contracts: no call's promise rests on it.
-use Rattle.std.specs.Prelude.{◌≡◌, ℕ, ◌+◌, ◌*◌, ◌/◌, ◌%◌, ◌<◌, ◌≤◌, List, [], length, slice_index, slice_index_or}
+use Rattle.std.specs.Prelude.{◌≡◌, ℕ, ◌+◌, ◌*◌, ◌/◌, ◌%◌, ◌<◌, ◌≤◌, cond, List, [], length, ◌==◌, slice_index, slice_index_or}
 use Rattle.schema.specs.declared.descriptions.Descriptions.{Descriptions}
 use Rattle.schema.specs.declared.row.Row.{Row}
 use Rattle.schema.specs.Masks.{Member, Strided}
@@ -15,6 +15,10 @@ point (mark e m) = 32 * e + m
 abbrev pub Placed : Description → Type 0
 Placed (cls a) = a < 64
 Placed (mark e m) = (e < 64) × (1 ≤ m) × (m ≤ 31)
+
+-- the description at a point
+abbrev pub described : ℕ → Description
+described i = cond (i % 32 == 0) (cls (i / 32)) (mark (i / 32) (i % 32))
 
 -- how often class a needs the end e, at most
 abbrev pub count : List (List ℕ) → ℕ → ℕ → ℕ

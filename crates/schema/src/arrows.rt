@@ -44,12 +44,11 @@ pub(crate) fn torn_arrows(sheet: &SoundSheet, arrows: &Arrows) -> Set64
     requires { Told 80 arrows.now.overs sheet.now.rows.items }
     ensures { Gathers (ArrowTorn sheet.now.rows.items) 32 result }
 {
-    let rows = sheet.rows();
     let mut found = Set64::EMPTY;
     // by number, since a set names arrows and is no list
     for arrow in 0..ARROWS {
         let marks: [u8; ARROWS] = marks_from(arrows, arrow);
-        if torn::<Arrows>(rows, &marks, &marks) {
+        if torn::<Arrows>(sheet, &marks, &marks) {
             found.insert(arrow);
         }
     }

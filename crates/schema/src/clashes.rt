@@ -1,12 +1,15 @@
 //! Whether two points that a row sets apart are marked, one in each of two tables.
 ghost use Rattle.std.specs.Prelude.{◌≡◌, ℕ, Option, slice_index};
 ghost use Rattle.schema.specs.declared.row.Row.{Row as RowMeaning};
+ghost use Rattle.schema.specs.Rows.{Sound};
 ghost use Rattle.schema.specs.Verdicts.{Tells};
 ghost use Rattle.schema.specs.Keys.{arrows_apart, descriptions_apart, BothMarked, TornBy};
 
 use crate::arrows::Arrows;
+use crate::description::Description;
 use crate::descriptions::Descriptions;
 use crate::row::Row;
+use crate::sound_sheet::SoundSheet;
 
 /// A web with pairs of points that rows set apart.
 pub(crate) trait Clashes {
@@ -14,6 +17,7 @@ pub(crate) trait Clashes {
 
     /// The two points that a row sets apart.
     fn apart(row: Row) -> Option<(usize, usize)>
+        requires { Sound 64 32 row }
         ensures { result ≡ apart row };
 }
 
@@ -34,26 +38,32 @@ impl Clashes for Descriptions {
 
     // A cap clashes with the first mark above it.
     fn apart(row: Row) -> Option<(usize, usize)> {
-        let one = 32 * usize::from(row.a);
-        let two = 32 * usize::from(row.b);
+        let a = usize::from(row.a);
+        let b = usize::from(row.b);
+        let n = usize::from(row.n);
         // a byte, as `Row` has it
-        match row.letter {
-            b'X' => Some((one, two)),
-            b'K' => Some((one, two + usize::from(row.n) + 1)),
-            _ => None,
-        }
+        let (one, two) = match row.letter {
+            b'X' => (Description::class(a), Description::class(b)),
+            b'K' => (Description::class(a), Description::mark(b, n + 1)),
+            _ => return None,
+        };
+        Some((one.point(), two.point()))
     }
 }
 
 /// Whether a row sets two points of a web apart, one marked in each table.
-pub(crate) fn torn<W: Clashes>(rows: &[Row], first: &[u8], second: &[u8]) -> bool
-    ensures { Tells result (TornBy W.apart rows.now first.now second.now) }
+pub(crate) fn torn<W: Clashes>(sheet: &SoundSheet, first: &[u8], second: &[u8]) -> bool
+    ensures { Tells result (TornBy W.apart sheet.now.rows.items first.now second.now) }
 {
-    rows.iter().any(|row| both_marked::<W>(*row, first, second))
+    sheet
+        .rows()
+        .iter()
+        .any(|row| both_marked::<W>(*row, first, second))
 }
 
 // A row says in one order what clashes either way round.
 fn both_marked<W: Clashes>(row: Row, first: &[u8], second: &[u8]) -> bool
+    requires { Sound 64 32 row }
     ensures { Tells result (BothMarked W.apart row first.now second.now) }
 {
     match W::apart(row) {

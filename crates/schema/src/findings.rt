@@ -1,18 +1,19 @@
 //! What a schema tells of any description or arrow: where it leads, and whether it is empty.
 ghost use Rattle.std.specs.Prelude.{◌≡◌, ◌<◌, ◌⊎◌};
 ghost use Rattle.search.specs.Leads.{Leads};
-ghost use Rattle.schema.specs.Found.{MarkedEmpty, TellsLeads, TellsParted};
+ghost use Rattle.schema.specs.Found.{MarkedEmpty};
 ghost use Rattle.schema.specs.Keys.{Reaches};
 ghost use Rattle.schema.specs.Points.{Placed};
-ghost use Rattle.schema.specs.Questions.{EmptyDescription, Yes};
+ghost use Rattle.schema.specs.Questions.{EmptyDescription, Parted, Yes};
 ghost use Rattle.schema.specs.Rules.{Q};
 ghost use Rattle.schema.specs.Verdicts.{Tells};
-ghost use Rattle.schema.specs.Webs.{Description, ArrowLink, ArrowApart, Clashing, EmptyArrow};
+ghost use Rattle.schema.specs.Webs.{Description as Meaning, Link, ArrowLink, ArrowApart, Clashing, EmptyArrow};
 
 use crate::arrows::{ARROWS, Arrows};
 use crate::clashes::torn;
+use crate::description::Description;
 use crate::descriptions::{Descriptions, POINTS};
-use crate::keys::{KEYS, empty_keys, key_point};
+use crate::keys::{KEYS, empty_keys};
 use crate::marking::marks_from;
 use crate::schema::Schema;
 use std::marker::Model;
@@ -56,24 +57,23 @@ impl Findings<'_> {
         }
     }
 
-    /// Whether the description at one point is empty or leads to that at another.
-    pub(crate) fn leads(&self, from: usize, to: usize) -> bool
-        requires { to < 2048 }
-        ensures { TellsLeads self.now from to result }
+    /// Whether one description is empty or leads to another.
+    pub(crate) fn leads(&self, from: Description, to: Description) -> bool
+        ensures { Tells result (EmptyDescription self.now from ⊎ Leads (Link self.now) from to) }
     {
-        let marks = marks_from(&self.web, from);
-        self.is_empty(&marks) || marks[to] == 1
+        let marks = self.marks(from);
+        self.is_empty(&marks) || marks[to.point()] == 1
     }
 
-    /// Whether one of the descriptions at two points is empty, or they lead to two that clash, one from each.
-    pub(crate) fn parted(&self, one: usize, two: usize) -> bool
-        ensures { TellsParted self.now one two result }
+    /// Whether one of two descriptions is empty, or they lead to two that clash, one from each.
+    pub(crate) fn parted(&self, one: Description, two: Description) -> bool
+        ensures { Tells result (Parted self.now one two) }
     {
-        let first = marks_from(&self.web, one);
-        let second = marks_from(&self.web, two);
+        let first = self.marks(one);
+        let second = self.marks(two);
         self.is_empty(&first)
             || self.is_empty(&second)
-            || torn::<Descriptions>(self.schema.sheet.rows(), &first, &second)
+            || torn::<Descriptions>(&self.schema.sheet, &first, &second)
     }
 
     /// Whether one arrow is empty or leads to another: an arrow is empty with its tail.
@@ -92,26 +92,35 @@ impl Findings<'_> {
         ensures { Tells result (Yes self.now (Q one two)) }
     {
         self.arrows_clash(one, two)
-            || self.parted(64 * one + 1, 64 * two + 1)
-            || self.parted(64 * one + 33, 64 * two + 33)
+            || self.parted(Description::mark(2 * one, 1), Description::mark(2 * two, 1))
+            || self.parted(
+                Description::mark(2 * one + 1, 1),
+                Description::mark(2 * two + 1, 1),
+            )
     }
 
     // Whether two arrows lead to two that clash, one from each.
     fn arrows_clash(&self, one: usize, two: usize) -> bool
-        requires { (one < 32) × (two < 32) }
         ensures { Tells result (Clashing (ArrowLink self.now) (ArrowApart self.now) one two) }
     {
         let first: [u8; ARROWS] = marks_from(&self.arrows, one);
         let second: [u8; ARROWS] = marks_from(&self.arrows, two);
-        torn::<Arrows>(self.schema.sheet.rows(), &first, &second)
+        torn::<Arrows>(&self.schema.sheet, &first, &second)
+    }
+
+    // The marks of what a description leads to.
+    fn marks(&self, from: Description) -> [u8; POINTS]
+        ensures placed { Placed from }
+        ensures reaches { Reaches self.now from result }
+    {
+        marks_from(&self.web, from.point())
     }
 
     // Whether a description is empty, by what it leads to: two that clash, or a key that is empty.
     fn is_empty(&self, marks: &[u8; POINTS]) -> bool
-        ensures { (d : Description) → Placed d → Reaches self.now d marks.now → Tells result (EmptyDescription self.now d) }
+        ensures { (d : Meaning) → Placed d → Reaches self.now d marks.now → Tells result (EmptyDescription self.now d) }
     {
-        torn::<Descriptions>(self.schema.sheet.rows(), marks, marks)
-            || marks_empty(marks, &self.empty)
+        torn::<Descriptions>(&self.schema.sheet, marks, marks) || marks_empty(marks, &self.empty)
     }
 }
 
@@ -119,5 +128,5 @@ impl Findings<'_> {
 fn marks_empty(marks: &[u8; POINTS], empty: &[u8; 129]) -> bool
     ensures { Tells result (MarkedEmpty marks.now empty.now) }
 {
-    (0..KEYS).any(|key| marks[key_point(key)] == 1 && empty[key] == 1)
+    (0..KEYS).any(|key| marks[Description::of_key(key).point()] == 1 && empty[key] == 1)
 }

@@ -4,13 +4,12 @@
 //! on an arrow that no other leads to, so a class needs them there by a row of its own. What is empty is what point
 //! 128 leads to in a web that goes backwards: from 128 to each key that leads to two that clash, from a key to each
 //! that leads to it, and between the two ends of an arrow.
-ghost use Rattle.std.specs.Prelude.{◌≡◌, ℕ, ◌+◌, ◌-◌, ◌*◌, ◌/◌, ◌<◌, ◌≤◌, ◌⊎◌, List, length, slice_index};
+ghost use Rattle.std.specs.Prelude.{◌≡◌, ℕ, ◌-◌, ◌/◌, ◌<◌, ◌≤◌, ◌⊎◌, List, length, slice_index};
 ghost use Rattle.search.specs.Leads.{NextLink};
 ghost use Rattle.schema.specs.Masks.{Member, Gathers};
-ghost use Rattle.schema.specs.Points.{point};
 ghost use Rattle.schema.specs.Rows.{AllSound};
 ghost use Rattle.schema.specs.declared.row.Row.{Row as RowMeaning};
-ghost use Rattle.schema.specs.Keys.{Forward, ForwardEnd, Backward, keyed, EmptyKeys, TornSets, KeyBuilt, Known, Surveyed};
+ghost use Rattle.schema.specs.Keys.{Forward, ForwardEnd, Backward, EmptyKeys, TornSets, KeyBuilt, Known, Surveyed};
 ghost use Rattle.schema.specs.Verdicts.{NoSharedCap, Tells};
 ghost use Rattle.std.proofs.Common.{rules};
 
@@ -198,18 +197,6 @@ pub(crate) fn empty_keys(schema: &Schema) -> [u8; 129]
     ensures { EmptyKeys schema.now.sheet.rows.items result }
 {
     marks_from(&Keys::survey(schema), KEYS)
-}
-
-/// The point of a key in the web of descriptions.
-pub(crate) fn key_point(key: usize) -> usize
-    requires { key < 128 }
-    ensures { result ≡ point (keyed key) }
-{
-    if key < 64 {
-        32 * key
-    } else {
-        32 * (key - 64) + 1
-    }
 }
 
 // The set of the x for which byte x is 1.

@@ -5,6 +5,7 @@ ghost use Rattle.schema.specs.Rows.{Sound};
 ghost use Rattle.schema.specs.Verdicts.{Tells};
 
 use crate::checks::shared_arrows;
+use crate::description::Description;
 use crate::faults::QuestionFault;
 use crate::findings::Findings;
 use crate::letters::unsound_field;
@@ -44,7 +45,7 @@ fn uncountable(schema: &Schema, asked: Row) -> bool
         && shared_arrows(&schema.sheet).has(usize::from(asked.b) / 2)
 }
 
-// Whether a schema tells what a sound row says. Class a is at point 32·a, and the mark (e, m) at 32·e + m.
+// Whether a schema tells what a sound row says.
 fn answer(schema: &Schema, asked: Row) -> bool
     requires { Sound 64 32 asked }
     ensures { TellsYes schema.now.sheet.rows.items asked result }
@@ -55,11 +56,11 @@ fn answer(schema: &Schema, asked: Row) -> bool
     let n = usize::from(asked.n);
     // a byte, as `Row` has it
     match asked.letter {
-        b'S' => found.leads(32 * a, 32 * b),
-        b'X' => found.parted(32 * a, 32 * b),
-        b'D' => found.leads(32 * a + 1, 32 * b),
-        b'F' => found.leads(32 * a, 32 * b + n),
-        b'K' => found.parted(32 * a, 32 * b + n + 1),
+        b'S' => found.leads(Description::class(a), Description::class(b)),
+        b'X' => found.parted(Description::class(a), Description::class(b)),
+        b'D' => found.leads(Description::mark(a, 1), Description::class(b)),
+        b'F' => found.leads(Description::class(a), Description::mark(b, n)),
+        b'K' => found.parted(Description::class(a), Description::mark(b, n + 1)),
         b'P' => found.arrow_leads(a, b),
         b'Q' => found.arrows_parted(a, b),
         // a sound row has one of the seven letters

@@ -1,29 +1,17 @@
-use Rattle.std.proofs.Common.{ℕ, get_or, sym, subst, inl}
+use Rattle.std.proofs.Common.{inl}
 use Rattle.search.specs.Leads.{Leads}
-use Rattle.schema.proofs.Finds.{found_as}
-use Rattle.schema.specs.Verdicts.{Bit}
 use Rattle.schema.specs.Webs.{Link}
-use Rattle.schema.proofs.Marks.{reaches_from}
 use Rattle.schema.proofs.Signs.{tells_true, tells_bit, tells_second}
 use Rattle.schema.proofs.findings.Findings.leads.Goals as goal
 
 pub returns-then-is_empty : goal.returns-then-is_empty
-returns-then-is_empty c d u h k e f =
-    let it = c.self.inside in
-    let rows = c.args.self.now in
-    let found = found_as c.self.view_is c.self.invariant in
-    let sound = found.sound in
-    let marks = c.marks_from-marks.result in
-    let told = reaches_from rows it.web found.links sound d h c.args.from e marks c.marks_from-marks.ensures in
-    tells_true c.if-is_empty.true (inl (c.if-is_empty.ensures d h told))
+returns-then-is_empty c =
+    let from = c.marks-marks.ensures in
+    tells_true c.if-is_empty.true (inl (c.if-is_empty.ensures c.args.from from.placed from.reaches))
 
 pub returns-else-is_empty : goal.returns-else-is_empty
-returns-else-is_empty c d u h k e f =
-    let it = c.self.inside in
-    let rows = c.args.self.now in
-    let found = found_as c.self.view_is c.self.invariant in
-    let sound = found.sound in
-    let marks = c.marks_from-marks.result in
-    let told = reaches_from rows it.web found.links sound d h c.args.from e marks c.marks_from-marks.ensures in
-    tells_second _ (Leads (Link rows) d u) (c.if-is_empty.ensures d h told)
-    (tells_bit (get_or marks c.args.to 0) (subst (λ (i : ℕ). Bit (get_or marks i 0) (Leads (Link rows) d u)) (sym f) (told u k)))
+returns-else-is_empty c =
+    let from = c.marks-marks.ensures in
+    let d = c.args.from in
+    tells_second _ (Leads (Link c.args.self.now) d c.args.to) (c.if-is_empty.ensures d from.placed from.reaches)
+    (rw (c.point.ensures.is) (tells_bit _ (from.reaches c.args.to c.point.ensures.placed)))
