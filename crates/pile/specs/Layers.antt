@@ -5,18 +5,16 @@
 use Rattle.std.specs.Prelude.{◌≡◌, ◌<◌, ◌≤◌, Bool, true, false, [], ◌∷◌, length, Ok, Err, Result}
 use Rattle.schema.specs.declared.row.Row.{Row}
 use Rattle.schema.specs.declared.faults.EnterFault.{EnterFault}
-use Rattle.schema.specs.declared.faults.EnterFault.TheVariants.{Full}
-use Rattle.schema.specs.Sheets.{Shown}
+use Rattle.schema.specs.Sheets.{Shown, Takes}
 use Rattle.pile.specs.declared.request.Answer.{Answer}
 use Rattle.pile.specs.declared.request.Call.{Call}
 use Rattle.pile.specs.declared.request.Call.TheVariants.{Withdraw, Strike, Restore}
 use Rattle.pile.specs.Lives.{AtTop}
 use Rattle.pile.specs.Plain.{Plain, Layer, trial, strike, over, top, shown_by, grown_layer}
 
--- a row goes to the end of the layer where it has room, and otherwise nothing changes
+-- a row goes to the end of the layer
 abbrev pub LayerEntered : Layer → Shown → Row → Result Unit EnterFault → Layer → Type 0
-LayerEntered l s row (Ok u) m = (length (shown_by l s).rows < (shown_by l s).capacity) × (m ≡ grown_layer l (row ∷ []))
-LayerEntered l s row (Err Full) m = ((shown_by l s).capacity ≤ length (shown_by l s).rows) × (m ≡ l)
+LayerEntered l s row = Takes (shown_by l s) l (grown_layer l (row ∷ []))
 
 -- only a trial has its rows withdrawn, and only a strike layer strikes and restores
 abbrev pub is_own : Layer → Call → Bool

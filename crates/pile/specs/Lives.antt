@@ -13,7 +13,6 @@ use Rattle.std.specs.List.{slice_get}
 use Rattle.std.specs.declared.alloc.Global.{Global}
 use Rattle.schema.specs.declared.row.Row.{Row}
 use Rattle.schema.specs.declared.faults.EnterFault.{EnterFault}
-use Rattle.schema.specs.declared.faults.EnterFault.TheVariants.{Full}
 use Rattle.schema.specs.declared.faults.AmendFault.{AmendFault}
 use Rattle.schema.specs.declared.faults.LoadFault.{LoadFault}
 use Rattle.schema.specs.declared.faults.VerdictFault.{VerdictFault}
@@ -22,7 +21,7 @@ use Rattle.schema.specs.Asked.{Asked}
 use Rattle.schema.specs.Books.{Amended}
 use Rattle.schema.specs.Loading.{Named, Loaded}
 use Rattle.schema.specs.Rows.{◌∈◌}
-use Rattle.schema.specs.Sheets.{Shown}
+use Rattle.schema.specs.Sheets.{Shown, Takes}
 use Rattle.schema.specs.Verdicts.{Verdict}
 use Rattle.pile.specs.declared.faults.RestoreFault.{RestoreFault}
 use Rattle.pile.specs.declared.faults.StrikeFault.{StrikeFault}
@@ -50,8 +49,7 @@ pub data Sees (s : Shown) : Look → Sight → Type 0 where
   asked : (row : Row) (r : Result Bool QuestionFault) → Asked s row r → Sees s (look.Question row) (sight.Asked r)
 
 abbrev pub Entering : Plain → Row → Result Unit EnterFault → Plain → Type 0
-Entering p row (Ok u) q = (length (top p).rows < (top p).capacity) × (q ≡ grown p (row ∷ []))
-Entering p row (Err Full) q = ((top p).capacity ≤ length (top p).rows) × (q ≡ p)
+Entering p row = Takes (top p) p (grown p (row ∷ []))
 
 -- all rows of the text go to the end in their order, or else nothing changes
 abbrev pub Loading : Plain → List ℕ → Result Unit LoadFault → Plain → Type 0

@@ -1,6 +1,7 @@
 -- What a sheet means.
 --   Shown         two counts, a list of rows and a capacity
 --   Bounded       the laws of every sheet
+--   Takes         what entering answers, and what it leaves of a thing that shows a sheet
 --   Entered       what entering a row answers and leaves
 use Rattle.std.specs.Prelude.{◌≡◌, ℕ, ◌<◌, ◌≤◌, List, [], ◌∷◌, ◌++◌, length, Ok, Err, Result}
 use Rattle.schema.specs.declared.row.Row.{Row}
@@ -24,7 +25,11 @@ pub record Bounded (s : Shown) : Type 0 where
 abbrev pub with_rows : Shown → List Row → Shown
 with_rows s rows = record { classes = s.classes; arrows = s.arrows; rows = rows; capacity = s.capacity }
 
--- a row goes to the end where there is room, and otherwise nothing changes
+-- where what is shown has room, `before` becomes `after`, and otherwise nothing changes
+abbrev pub Takes : {A : Type 0} → Shown → A → A → Result Unit EnterFault → A → Type 0
+Takes s before after (Ok u) left = (length s.rows < s.capacity) × (left ≡ after)
+Takes s before after (Err Full) left = (s.capacity ≤ length s.rows) × (left ≡ before)
+
+-- a row goes to the end
 abbrev pub Entered : Shown → Row → Result Unit EnterFault → Shown → Type 0
-Entered s row (Ok u) t = (length s.rows < s.capacity) × (t ≡ with_rows s (s.rows ++ row ∷ []))
-Entered s row (Err Full) t = (s.capacity ≤ length s.rows) × (t ≡ s)
+Entered s row = Takes s s (with_rows s (s.rows ++ row ∷ []))
