@@ -3,10 +3,10 @@ use Rattle.std.proofs.Common.{◌≡◌, ℕ, zero, suc, ◌<◌, ◌≤◌, ◌
 use Rattle.std.proofs.lemmas.Bool.{cases_eq}
 use Rattle.std.proofs.lemmas.List.{get_or_default, length-set, length-replicate}
 use Rattle.schema.specs.declared.row.Row.{Row}
-use Rattle.schema.specs.Masks.{bit, Member, Joins}
+use Rattle.schema.specs.Masks.{Member, Joins}
 use Rattle.schema.specs.Rows.{◌∈◌, shape_of, Fits, Sound}
 use Rattle.schema.specs.Points.{plain, count, Told, Needed}
-use Rattle.schema.proofs.Bits.{bit_zero}
+use Rattle.schema.proofs.Bits.{member_zero}
 use Rattle.schema.proofs.Members.{∈_left, ∈_last, ∈_push}
 
 -- a row is told by its fields
@@ -180,7 +180,7 @@ zeros_at (suc n) (suc a) = zeros_at n a
 pub told_none : (l n : ℕ) → Told l (replicate n 0) []
 told_none l n =
     record {
-      only = λ a b m. absurd (let z : ◌≡◌ {A = ℕ} 0 1 = sym (ap (bit b) (zeros_at n a) ∙ bit_zero b) ∙ m in omega arith);
+      only = λ a b m. absurd (member_zero _ b (zeros_at n a) m);
       all = λ a b m. absurd m;
     }
 
@@ -198,7 +198,7 @@ pub needed_none : (n : ℕ) → Needed (replicate n 0) (replicate 64 (replicate 
 needed_none n =
     record {
       wide = λ a l. lines_long 64 64 a l;
-      some = λ a e l x. absurd (let z : ◌≡◌ {A = ℕ} 0 1 = sym (ap (bit e) (zeros_at n a) ∙ bit_zero e) ∙ x in omega arith);
+      some = λ a e l x. absurd (member_zero _ e (zeros_at n a) x);
       only = λ a e l x. absurd (omega (arith, lines_at 64 64 a e));
       all = λ a e k x. absurd x;
     }

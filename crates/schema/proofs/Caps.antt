@@ -15,7 +15,7 @@ use Rattle.schema.specs.Verdicts.{CapsShared, Tells}
 use Rattle.schema.specs.Checks.{Shared}
 use Rattle.schema.proofs.Members.{∈_left, ∈_last, ∈_push}
 use Rattle.schema.proofs.Building.{row_is}
-use Rattle.schema.proofs.Bits.{bit_zero}
+use Rattle.schema.proofs.Bits.{member_zero}
 
 -- a limit grows with the counts
 limit_more : (c p : ℕ) (k : Kind) → c ≤ 64 → p ≤ 32 → limit c p k ≤ limit 64 32 k
@@ -63,7 +63,7 @@ module _ (rows : List Row) (set : ℕ) (told : Shared rows set) where
 
 -- one more row
 pub shared_none : Shared [] 0
-shared_none = record { only = λ q m. absurd (let z : ◌≡◌ {A = ℕ} 0 1 = sym (bit_zero q) ∙ m in omega arith); all = λ p q h e. absurd h }
+shared_none = record { only = λ q m. absurd (member_zero 0 q refl m); all = λ p q h e. absurd h }
 
 pub shared_other : (rows : List Row) (set : ℕ) (r : Row) → (r.letter ≡ 80 → r.a ≡ r.b) → Shared rows set → Shared (rows ++ r ∷ []) set
 shared_other rows set r f t =

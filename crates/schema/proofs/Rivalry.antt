@@ -6,7 +6,7 @@ use Rattle.search.specs.Leads.{Leads, stay, go}
 use Rattle.search.proofs.Trails.{leads_then}
 use Rattle.schema.specs.declared.row.Row.{Row}
 use Rattle.schema.specs.declared.descriptions.Descriptions.{Descriptions}
-use Rattle.schema.specs.Masks.{bit, Member, Gathers}
+use Rattle.schema.specs.Masks.{Member, Gathers}
 use Rattle.schema.specs.Points.{count, Built}
 use Rattle.schema.specs.Rows.{◌∈◌, AllSound}
 use Rattle.schema.specs.Rules.{X, F, K, row, Has, arrow, side}
@@ -15,7 +15,7 @@ use Rattle.schema.specs.Verdicts.{NoSharedCap}
 use Rattle.schema.specs.Webs.{Description, cls, mark, Link, by_S, by_F, by_D, down, by_P, Apart, by_X, by_K, ArrowLink, Clashing}
 use Rattle.schema.proofs.Building.{row_is, fits_at, zeros_at}
 use Rattle.schema.proofs.KeyReach.{keyed_class, keyed_end}
-use Rattle.schema.proofs.Bits.{bit_zero}
+use Rattle.schema.proofs.Bits.{member_zero}
 use Rattle.schema.proofs.Members.{∈_left, ∈_last, ∈_push}
 
 -- arrows of two ends lead on, at the same side
@@ -121,7 +121,7 @@ module _ (rows : List Row) (sound : AllSound 64 32 rows) (uncapped : NoSharedCap
 pub rivals_none : (w : Descriptions) → RivalSets w [] (replicate 64 0)
 rivals_none w =
     record {
-      only = λ a b m. absurd (let z : ◌≡◌ {A = ℕ} 0 1 = sym (ap (bit b) (zeros_at 64 a) ∙ bit_zero b) ∙ m in omega arith);
+      only = λ a b m. absurd (member_zero _ b (zeros_at 64 a) m);
       all = λ r b m. absurd m;
     }
 
