@@ -51,26 +51,24 @@ fn main(rt: HostRuntime) -> anyhow::Result<ExitCode> {
 // Makes the lowest sheet, and the calls on the pile above it.
 fn replay(rt: &HostRuntime, script: Script) -> anyhow::Result<()> {
     let Script {
+        title,
         lowest,
         steps,
         titles,
     } = script;
-    let [first, rest @ ..] = titles.as_slice() else {
-        return Ok(());
-    };
-    print!(rt; "{first}: ")?;
+    print!(rt; "{title}: ")?;
     match lowest {
         Lowest::Book(classes, arrows) => {
             let mut book = Book::new(rt.alloc())?;
             rt.println(Outcome(book.set_up(classes, arrows)))?;
             let classes = usize::from(book.classes());
-            play::<Strike<Trial<Trial<Book>>>>(rt, book, classes, steps, rest)
+            play::<Strike<Trial<Trial<Book>>>>(rt, book, classes, steps, titles)
         }
         Lowest::Text(text) => {
             rt.println(Outcome(check_text(text.as_slice())))?;
             let sheet = TextSheet::new(text.as_slice());
             let classes = usize::from(sheet.classes());
-            play::<Strike<Trial<Trial<Base<TextSheet>>>>>(rt, sheet, classes, steps, rest)
+            play::<Strike<Trial<Trial<Base<TextSheet>>>>>(rt, sheet, classes, steps, titles)
         }
     }
 }
@@ -81,7 +79,7 @@ fn play<P: Pile + Drop>(
     lowest: P::Lowest,
     classes: usize,
     steps: Vec<Request>,
-    titles: &[String],
+    titles: Vec<String>,
 ) -> anyhow::Result<()> {
     let (_pile, answers) = live::<P>(rt.alloc(), lowest, steps)?;
     for (title, answer) in titles.iter().zip(answers.iter()) {

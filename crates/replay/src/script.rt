@@ -14,10 +14,11 @@ pub enum Lowest {
     Text(Vec<u8>),
 }
 
-/// The titles are those of the lowest sheet and then of each step: the number of its line, and the words as they were
-/// written. They stand apart from the steps, since `live` takes those as they are.
+/// The lowest sheet and the steps, each with a title: the number of its line, and the words as they were written. The
+/// titles of the steps stand apart from them, since `live` takes those as they are.
 #[derive(Drop)]
 pub struct Script {
+    pub title: String,
     pub lowest: Lowest,
     pub steps: Vec<Request>,
     pub titles: Vec<String>,
@@ -28,20 +29,27 @@ pub struct Script {
 #[error("line {0}: {1}")]
 pub struct ScriptFault(pub usize, pub Puzzle);
 
-// A text that is being read: the line that asked for it, and the part that loads it, or none for the lowest sheet.
+// What a text is for: the lowest sheet, by its title, or a part that loads it.
+#[derive(Drop)]
+enum Purpose {
+    Lowest(String),
+    Load(usize),
+}
+
+// A text that is being read, and the line that asked for it.
 #[derive(Drop)]
 struct Opened {
     line: usize,
-    part: Option<usize>,
+    purpose: Purpose,
     text: Vec<u8>,
 }
 
-// What was read so far, and the number of the line that is being read.
+// What was read so far, the lowest sheet with its title, and the number of the line that is being read.
 #[derive(Drop)]
 struct Reader {
     heap: Global,
     line: usize,
-    lowest: Option<Lowest>,
+    lowest: Option<(String, Lowest)>,
     steps: Vec<Request>,
     titles: Vec<String>,
     open: Option<Opened>,
@@ -93,67 +101,65 @@ impl Reader {
     fn close(&mut self, opened: Opened) -> Result<(), Puzzle> {
         let Opened {
             line: _,
-            part,
+            purpose,
             text,
         } = opened;
-        match part {
-            Some(part) => self.steps.push(Request {
+        match purpose {
+            Purpose::Lowest(title) => self.lowest = Some((title, Lowest::Text(text))),
+            Purpose::Load(part) => self.steps.push(Request {
                 part,
                 call: Call::Load(text),
             })?,
-            None => self.lowest = Some(Lowest::Text(text)),
         }
         Ok(())
     }
 
     // A line that is not of a text.
     fn begin(&mut self, line: &[u8]) -> Result<(), Puzzle> {
-        let line = std::str::from_utf8(line).map_err(|_| "the line is no text")?;
+        let line = std::str::from_utf8(line).map_err(|_| Puzzle::NotText)?;
         let words = split_words(self.heap, line)?;
         if words.first().is_none_or(|first| first.starts_with('#')) {
             return Ok(());
         }
         let (number, line) = (self.line, words.join(self.heap, " ")?);
-        self.titles
-            .push(format!(in self.heap; "{number}: {line}")?)?;
+        let title = format!(in self.heap; "{number}: {line}")?;
+        if self.lowest.is_none() {
+            return self.found(title, words.as_slice());
+        }
+        self.titles.push(title)?;
         self.follow(words.as_slice())
     }
 
-    // What the words of a line say: the lowest sheet first, and then calls.
+    // A call.
     fn follow(&mut self, words: &[&str]) -> Result<(), Puzzle> {
-        if self.lowest.is_none() {
-            return self.found(words);
-        }
         let [word, name, rest @ ..] = words else {
-            return Err("a call is a part and what it is asked".into());
+            return Err(Puzzle::NotCall);
         };
         let part = part_number(word)?;
         match read_call(self.heap, name, rest)? {
-            Call::Load(text) => self.open_text(Some(part), text),
+            Call::Load(text) => self.open_text(Purpose::Load(part), text),
             call => self.steps.push(Request { part, call })?,
         }
         Ok(())
     }
 
     // The lowest sheet.
-    fn found(&mut self, words: &[&str]) -> Result<(), Puzzle> {
+    fn found(&mut self, title: String, words: &[&str]) -> Result<(), Puzzle> {
         match words {
             ["book", classes, arrows] => {
-                self.lowest = Some(Lowest::Book(small(classes)?, small(arrows)?));
+                self.lowest = Some((title, Lowest::Book(small(classes)?, small(arrows)?)));
             }
-            ["text"] => self.open_text(None, Vec::new(self.heap)),
-            _ => {
-                return Err("a script begins with 'book' and two numbers, or with 'text'".into());
-            }
+            ["text"] => self.open_text(Purpose::Lowest(title), Vec::new(self.heap)),
+            _ => return Err(Puzzle::Beginning),
         }
         Ok(())
     }
 
     // The lines that follow are a text.
-    fn open_text(&mut self, part: Option<usize>, text: Vec<u8>) {
+    fn open_text(&mut self, purpose: Purpose, text: Vec<u8>) {
         self.open = Some(Opened {
             line: self.line,
-            part,
+            purpose,
             text,
         });
     }
@@ -169,15 +175,16 @@ impl Reader {
             open,
         } = self;
         if let Some(opened) = open {
-            return Err(ScriptFault(opened.line, "the text has no 'end'".into()));
+            return Err(ScriptFault(opened.line, Puzzle::NoEnd));
         }
-        match lowest {
-            Some(lowest) => Ok(Script {
-                lowest,
-                steps,
-                titles,
-            }),
-            None => Err(ScriptFault(line, "the script has no lowest sheet".into())),
-        }
+        let Some((title, lowest)) = lowest else {
+            return Err(ScriptFault(line, Puzzle::NoLowest));
+        };
+        Ok(Script {
+            title,
+            lowest,
+            steps,
+            titles,
+        })
     }
 }

@@ -13,16 +13,40 @@ const TABLE_BYTES: u16 = 96;
 pub enum Puzzle {
     #[error("the script is longer than {most} bytes", most = SCRIPT_BYTES)]
     TooLong,
-    #[error("{0}")]
-    Words(&'static str),
+    #[error("the line is no text")]
+    NotText,
+    #[error("a script begins with 'book' and two numbers, or with 'text'")]
+    Beginning,
+    #[error("the script has no lowest sheet")]
+    NoLowest,
+    #[error("the text has no 'end'")]
+    NoEnd,
+    #[error("a call is a part and what it is asked")]
+    NotCall,
+    #[error("a part is base, city, tariff, strikes or a number")]
+    NotPart,
+    #[error("there is no such call")]
+    NoSuchCall,
+    #[error("there is no such call, or it takes nothing")]
+    TakesNothing,
+    #[error("the call takes one number")]
+    TakesOne,
+    #[error("amend takes a number and a row")]
+    AmendTakes,
+    #[error("verdict takes one number at most")]
+    VerdictTakes,
+    #[error("a row is a letter and two or three numbers")]
+    NotRow,
+    #[error("a row begins with a letter")]
+    NotLetter,
+    #[error("a number has digits only")]
+    NotDigits,
+    #[error("the number is too large")]
+    TooLarge,
+    #[error("the number is above 65535")]
+    Above65535,
     #[error("no memory")]
     Memory(#[from(alloc)] AllocError),
-}
-
-impl From<&'static str> for Puzzle {
-    fn from(words: &'static str) -> Puzzle {
-        Puzzle::Words(words)
-    }
 }
 
 /// The words of a line, between, before and after which there are blanks.
@@ -33,13 +57,13 @@ pub(crate) fn split_words(heap: Global, line: &str) -> Result<Vec<&str>, AllocEr
 }
 
 /// The number of a part, by its name or in digits.
-pub(crate) fn part_number(word: &str) -> Result<usize, &'static str> {
+pub(crate) fn part_number(word: &str) -> Result<usize, Puzzle> {
     match word {
         "base" => Ok(0),
         "city" => Ok(1),
         "tariff" => Ok(2),
         "strikes" => Ok(3),
-        _ => large(word).map_err(|_| "a part is base, city, tariff, strikes or a number"),
+        _ => large(word).map_err(|_| Puzzle::NotPart),
     }
 }
 
@@ -48,7 +72,7 @@ pub(crate) fn read_call(heap: Global, name: &str, rest: &[&str]) -> Result<Call,
     match (name, rest) {
         ("enter", _) => Ok(Call::Enter(row(rest)?)),
         ("amend", [k, rest @ ..]) => Ok(Call::Amend(large(k)?, row(rest)?)),
-        ("amend", []) => Err("amend takes a number and a row".into()),
+        ("amend", []) => Err(Puzzle::AmendTakes),
         ("strike", _) => Ok(Call::Strike(only(rest)?)),
         ("restore", _) => Ok(Call::Restore(only(rest)?)),
         ("ask", _) => Ok(Call::Look(Look::Question(row(rest)?))),
@@ -59,8 +83,8 @@ pub(crate) fn read_call(heap: Global, name: &str, rest: &[&str]) -> Result<Call,
         ("counts", []) => Ok(Call::Look(Look::Counts)),
         ("capacity", []) => Ok(Call::Look(Look::Capacity)),
         ("rows", []) => Ok(Call::Look(Look::Len)),
-        (_, []) => Err("there is no such call".into()),
-        _ => Err("there is no such call, or it takes nothing".into()),
+        (_, []) => Err(Puzzle::NoSuchCall),
+        _ => Err(Puzzle::TakesNothing),
     }
 }
 
@@ -69,18 +93,18 @@ fn verdict(heap: Global, rest: &[&str]) -> Result<Call, Puzzle> {
     let bytes = match rest {
         [] => TABLE_BYTES,
         [bytes] => small(bytes)?,
-        _ => return Err("verdict takes one number at most".into()),
+        _ => return Err(Puzzle::VerdictTakes),
     };
     let table = vec![in heap; 0u8; usize::from(bytes)]?;
     Ok(Call::Look(Look::Verdict(table)))
 }
 
 // A row: its letter and two or three numbers, the third 0 where it is left out.
-fn row(words: &[&str]) -> Result<Row, &'static str> {
+fn row(words: &[&str]) -> Result<Row, Puzzle> {
     let (letter, a, b, n) = match words {
         [letter, a, b] => (letter, a, b, &"0"),
         [letter, a, b, n] => (letter, a, b, n),
-        _ => return Err("a row is a letter and two or three numbers"),
+        _ => return Err(Puzzle::NotRow),
     };
     Ok(Row {
         letter: one_byte(letter)?,
@@ -90,30 +114,30 @@ fn row(words: &[&str]) -> Result<Row, &'static str> {
     })
 }
 
-fn one_byte(word: &str) -> Result<u8, &'static str> {
+fn one_byte(word: &str) -> Result<u8, Puzzle> {
     match word.as_bytes() {
         [letter] => Ok(*letter),
-        _ => Err("a row begins with a letter"),
+        _ => Err(Puzzle::NotLetter),
     }
 }
 
 // The one number of a call.
-fn only(words: &[&str]) -> Result<usize, &'static str> {
+fn only(words: &[&str]) -> Result<usize, Puzzle> {
     match words {
         [k] => large(k),
-        _ => Err("the call takes one number"),
+        _ => Err(Puzzle::TakesOne),
     }
 }
 
 /// A number of 16 bits, in digits.
-pub(crate) fn small(word: &str) -> Result<u16, &'static str> {
-    u16::try_from(large(word)?).map_err(|_| "the number is above 65535")
+pub(crate) fn small(word: &str) -> Result<u16, Puzzle> {
+    u16::try_from(large(word)?).map_err(|_| Puzzle::Above65535)
 }
 
 // A number of 64 bits, in digits and nothing else.
-fn large(word: &str) -> Result<usize, &'static str> {
+fn large(word: &str) -> Result<usize, Puzzle> {
     if !word.bytes().all(|byte| byte.is_ascii_digit()) {
-        return Err("a number has digits only");
+        return Err(Puzzle::NotDigits);
     }
-    word.parse::<usize>().map_err(|_| "the number is too large")
+    word.parse::<usize>().map_err(|_| Puzzle::TooLarge)
 }

@@ -1,5 +1,6 @@
 -- An accepted text has no fault, and neither has what it tells.
 use Rattle.std.proofs.Common.{◌≡◌, ℕ, zero, suc, ◌+◌, ◌*◌, ◌<◌, true, List, [], ◌∷◌, length, get_or, take, drop, is_some, Some, None, Option, sym, refl, ap, ◌∙◌, subst, inl, inr, le_of_suc-le-suc, not-suc-le-zero, arith}
+use Rattle.std.proofs.lemmas.List.Elements.{Contains-get_or}
 use Rattle.std.proofs.lemmas.List.{drop-drop}
 use Rattle.schema.specs.declared.row.Row.{Row}
 use Rattle.schema.specs.declared.letters.Shape.{Shape}
@@ -9,7 +10,7 @@ use Rattle.schema.specs.Columns.{blank_row}
 use Rattle.schema.specs.Rows.{shape_of, Fits, Sound, Unsound, letter_unsound, a_unsound, b_unsound, n_unsound}
 use Rattle.schema.specs.Texts.{line, row_line, row_lines, text_of, line_at, RowLetter, WellFormed, IsText, Heads, TextFaulty, too_short, header_form, too_large, wrong_length, row_form, row_unsound}
 use Rattle.schema.specs.Verdicts.{SheetFaulty, over_limits, unsound_row}
-use Rattle.schema.proofs.Members.{∈_at, nth_∈}
+use Rattle.schema.proofs.Members.{nth_∈}
 use Rattle.schema.proofs.RowLines.{length_text}
 use Rattle.schema.proofs.Uniques.{sound_few, line_same, row_same, few_counts}
 
@@ -62,7 +63,7 @@ module _ {text : List ℕ} {c p : ℕ} {rows : List Row} (t : IsText text c p ro
 
   -- which is sound
   sound_at : (i : ℕ) → i < length rows → Sound c p (get_or rows i blank_row)
-  sound_at i l = t.sound _ (∈_at rows i blank_row l)
+  sound_at i l = t.sound _ (Contains-get_or rows i blank_row l)
 
   -- and in form
   form_at : (i : ℕ) → i < length rows → WellFormed RowLetter (row_line (get_or rows i blank_row))

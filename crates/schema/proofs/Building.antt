@@ -1,13 +1,14 @@
 -- The sets of a web after one more row.
 use Rattle.std.proofs.Common.{◌≡◌, ℕ, zero, suc, ◌<◌, ◌≤◌, ◌⊎◌, List, [], ◌∷◌, ◌++◌, length, get_or, set, replicate, sym, refl, ap, ◌∙◌, subst, inl, inr, ⊎_elim, arith, get_or-set_other, get_or-set_same}
+use Rattle.std.proofs.lemmas.List.Elements.{Contains-append_left, Contains-push, Contains-push_cases}
 use Rattle.std.proofs.lemmas.Bool.{cases_eq}
 use Rattle.std.proofs.lemmas.List.{get_or_default, length-set, length-replicate}
 use Rattle.schema.specs.declared.row.Row.{Row}
-use Rattle.schema.specs.Masks.{bit, Member, Joins}
+use Rattle.schema.specs.Masks.{Member, Joins}
 use Rattle.schema.specs.Rows.{◌∈◌, shape_of, Fits, Sound}
 use Rattle.schema.specs.Points.{plain, count, Told, Needed}
-use Rattle.schema.proofs.Bits.{bit_zero}
-use Rattle.schema.proofs.Members.{∈_left, ∈_last, ∈_push}
+use Rattle.schema.proofs.Bits.{member_zero}
+use Rattle.schema.proofs.Members.{not_in_empty}
 
 -- a row is told by its fields
 pub row_is : (r : Row) (l a b n : ℕ) → r.letter ≡ l → r.a ≡ a → r.b ≡ b → r.n ≡ n → record { letter = l; a = a; b = b; n = n } ≡ r
@@ -52,21 +53,21 @@ told_more l sets rows r a b d v e z p q w i t =
     subst (λ (x : ℕ). Told l (set sets x v) (rows ++ r ∷ [])) (sym p)
     (record {
       only = λ a b m. ⊎_elim
-          (λ (k : Member (get_or sets a 0) b). ∈_left (plain l a b) rows (r ∷ []) (t.only a b k))
-          (λ (k : (a ≡ r.a) × (b ≡ r.b)). subst (λ (q : Row). q ∈ (rows ++ r ∷ [])) (sym (row_is r l a b 0 e (sym k.0) (sym k.1) z)) (∈_last r rows))
+          (λ (k : Member (get_or sets a 0) b). Contains-append_left rows (r ∷ []) (plain l a b) (t.only a b k))
+          (λ (k : (a ≡ r.a) × (b ≡ r.b)). subst (λ (q : Row). q ∈ (rows ++ r ∷ [])) (sym (row_is r l a b 0 e (sym k.0) (sym k.1) z)) (Contains-push rows r))
           (member_more sets r.a r.b v w j a b m);
       all = λ a b m. ⊎_elim
           (λ (k : plain l a b ∈ rows). member_kept sets r.a r.b v w j a b (t.all a b k))
-          (λ (k : plain l a b ≡ r). member_new sets r.a r.b v w j a b (ap (λ (q : Row). q.a) k) (ap (λ (q : Row). q.b) k))
-          (∈_push (plain l a b) r rows m);
+          (λ (k : r ≡ plain l a b). member_new sets r.a r.b v w j a b (ap (λ (q : Row). q.a) (sym k)) (ap (λ (q : Row). q.b) (sym k)))
+          (Contains-push_cases rows r (plain l a b) m);
     })
 
 -- one more row of another letter
 pub told_other : (l : ℕ) (sets : List ℕ) (rows : List Row) (r : Row) → (r.letter ≡ l → ⊥) → Told l sets rows → Told l sets (rows ++ r ∷ [])
 told_other l sets rows r e t =
     record {
-      only = λ a b m. ∈_left (plain l a b) rows (r ∷ []) (t.only a b m);
-      all = λ a b m. ⊎_elim (λ (k : plain l a b ∈ rows). t.all a b k) (λ (k : plain l a b ≡ r). absurd (e (sym (ap (λ (q : Row). q.letter) k)))) (∈_push (plain l a b) r rows m);
+      only = λ a b m. Contains-append_left rows (r ∷ []) (plain l a b) (t.only a b m);
+      all = λ a b m. ⊎_elim (λ (k : plain l a b ∈ rows). t.all a b k) (λ (k : r ≡ plain l a b). absurd (e (ap (λ (q : Row). q.letter) k))) (Contains-push_cases rows r (plain l a b) m);
     }
 
 abbrev needing : ℕ → ℕ → ℕ → Row
@@ -77,8 +78,8 @@ needed_other sets counts rows r x t =
     record {
       wide = t.wide;
       some = t.some;
-      only = λ a e l h. ∈_left (needing a e (count counts a e)) rows (r ∷ []) (t.only a e l h);
-      all = λ a e n m. ⊎_elim (λ (k : needing a e n ∈ rows). t.all a e n k) (λ (k : needing a e n ≡ r). absurd (x (sym (ap (λ (q : Row). q.letter) k)))) (∈_push (needing a e n) r rows m);
+      only = λ a e l h. Contains-append_left rows (r ∷ []) (needing a e (count counts a e)) (t.only a e l h);
+      all = λ a e n m. ⊎_elim (λ (k : needing a e n ∈ rows). t.all a e n k) (λ (k : r ≡ needing a e n). absurd (x (ap (λ (q : Row). q.letter) k))) (Contains-push_cases rows r (needing a e n) m);
     }
 
 -- one more need that is no higher than what is known, or a higher one
@@ -94,16 +95,16 @@ module _ (sets : List ℕ) (counts : List (List ℕ)) (rows : List Row) (r : Row
         some = λ a e l m. ⊎_elim (λ (k : Member (get_or sets a 0) e). t.some a e l k)
             (λ (k : (a ≡ r.a) × (e ≡ r.b)). let q = same a e k.0 k.1 in omega arith)
             (member_more sets r.a r.b v w j a e m);
-        only = λ a e l m. ∈_left (needing a e (count counts a e)) rows (r ∷ []) (t.only a e l m);
+        only = λ a e l m. Contains-append_left rows (r ∷ []) (needing a e (count counts a e)) (t.only a e l m);
         all = λ a e n m. ⊎_elim
             (λ (k : needing a e n ∈ rows). let q = t.all a e n k in (member_kept sets r.a r.b v w j a e q.0, q.1))
-            (λ (k : needing a e n ≡ r).
-            let ka : a ≡ r.a = ap (λ (q : Row). q.a) k in
-            let kb : e ≡ r.b = ap (λ (q : Row). q.b) k in
-            let kn : n ≡ r.n = ap (λ (q : Row). q.n) k in
+            (λ (k : r ≡ needing a e n).
+            let ka : a ≡ r.a = ap (λ (q : Row). q.a) (sym k) in
+            let kb : e ≡ r.b = ap (λ (q : Row). q.b) (sym k) in
+            let kn : n ≡ r.n = ap (λ (q : Row). q.n) (sym k) in
             let q = same a e ka kb in
             (member_new sets r.a r.b v w j a e ka kb, omega arith))
-            (∈_push (needing a e n) r rows m);
+            (Contains-push_cases rows r (needing a e n) m);
       }
 
   -- the row's count in the place of a lower one
@@ -148,10 +149,10 @@ module _ (sets : List ℕ) (counts : List (List ℕ)) (rows : List Row) (r : Row
               (place a e);
           only = λ a e l m. ⊎_elim
               (λ (q : (a ≡ r.a) × (e ≡ r.b)).
-              subst (λ (s : Row). s ∈ (rows ++ r ∷ [])) (sym (row_is r 70 a e (count counts' a e) x (sym q.0) (sym q.1) (sym (here a e q.0 q.1)))) (∈_last r rows))
+              subst (λ (s : Row). s ∈ (rows ++ r ∷ [])) (sym (row_is r 70 a e (count counts' a e) x (sym q.0) (sym q.1) (sym (here a e q.0 q.1)))) (Contains-push rows r))
               (λ (q : (a ≡ r.a) × (e ≡ r.b) → ⊥).
               let s = there a e q in
-              subst (λ (n : ℕ). needing a e n ∈ (rows ++ r ∷ [])) (sym s) (∈_left (needing a e (count counts a e)) rows (r ∷ []) (t.only a e l (omega (arith, s, m)))))
+              subst (λ (n : ℕ). needing a e n ∈ (rows ++ r ∷ [])) (sym s) (Contains-append_left rows (r ∷ []) (needing a e (count counts a e)) (t.only a e l (omega (arith, s, m)))))
               (place a e);
           all = λ a e n m. ⊎_elim
               (λ (k : needing a e n ∈ rows). let q = t.all a e n k in (
@@ -159,12 +160,12 @@ module _ (sets : List ℕ) (counts : List (List ℕ)) (rows : List Row) (r : Row
                 ⊎_elim (λ (s : (a ≡ r.a) × (e ≡ r.b)). omega (arith, here a e s.0 s.1, same a e s.0 s.1, q.1))
                     (λ (s : (a ≡ r.a) × (e ≡ r.b) → ⊥). omega (arith, there a e s, q.1)) (place a e),
               ))
-              (λ (k : needing a e n ≡ r).
-              let ka : a ≡ r.a = ap (λ (q : Row). q.a) k in
-              let kb : e ≡ r.b = ap (λ (q : Row). q.b) k in
-              let kn : n ≡ r.n = ap (λ (q : Row). q.n) k in
+              (λ (k : r ≡ needing a e n).
+              let ka : a ≡ r.a = ap (λ (q : Row). q.a) (sym k) in
+              let kb : e ≡ r.b = ap (λ (q : Row). q.b) (sym k) in
+              let kn : n ≡ r.n = ap (λ (q : Row). q.n) (sym k) in
               (member_new sets r.a r.b v w j a e ka kb, omega (arith, here a e ka kb)))
-              (∈_push (needing a e n) r rows m);
+              (Contains-push_cases rows r (needing a e n) m);
         }
 
 -- what a sound row of a letter keeps to
@@ -180,8 +181,8 @@ zeros_at (suc n) (suc a) = zeros_at n a
 pub told_none : (l n : ℕ) → Told l (replicate n 0) []
 told_none l n =
     record {
-      only = λ a b m. absurd (let z : ◌≡◌ {A = ℕ} 0 1 = sym (ap (bit b) (zeros_at n a) ∙ bit_zero b) ∙ m in omega arith);
-      all = λ a b m. absurd m;
+      only = λ a b m. absurd (member_zero _ b (zeros_at n a) m);
+      all = λ a b m. absurd (not_in_empty m);
     }
 
 lines_at : (n m a e : ℕ) → count (replicate n (replicate m 0)) a e ≡ 0
@@ -198,7 +199,7 @@ pub needed_none : (n : ℕ) → Needed (replicate n 0) (replicate 64 (replicate 
 needed_none n =
     record {
       wide = λ a l. lines_long 64 64 a l;
-      some = λ a e l x. absurd (let z : ◌≡◌ {A = ℕ} 0 1 = sym (ap (bit e) (zeros_at n a) ∙ bit_zero e) ∙ x in omega arith);
+      some = λ a e l x. absurd (member_zero _ e (zeros_at n a) x);
       only = λ a e l x. absurd (omega (arith, lines_at 64 64 a e));
-      all = λ a e k x. absurd x;
+      all = λ a e k x. absurd (not_in_empty x);
     }

@@ -1,5 +1,6 @@
 -- Arrows that another arrow leads to, and the caps on them.
 use Rattle.std.proofs.Common.{◌≡◌, ℕ, ◌≤◌, Bool, true, false, List, [], ◌∷◌, ◌++◌, Some, None, Option, sym, refl, ap, ◌∙◌, subst, ⊎_elim, arith}
+use Rattle.std.proofs.lemmas.List.Elements.{Contains-append_left, Contains-push, Contains-push_cases}
 use Rattle.std.proofs.lemmas.Bool.{cases_eq}
 use Rattle.search.specs.Leads.{stay, go}
 use Rattle.search.proofs.Trails.{leads_one}
@@ -13,9 +14,9 @@ use Rattle.schema.specs.Rules.{P, row, Has, arrow}
 use Rattle.schema.specs.Webs.{Alone}
 use Rattle.schema.specs.Verdicts.{CapsShared, Tells}
 use Rattle.schema.specs.Checks.{Shared}
-use Rattle.schema.proofs.Members.{∈_left, ∈_last, ∈_push}
+use Rattle.schema.proofs.Members.{not_in_empty}
 use Rattle.schema.proofs.Building.{row_is}
-use Rattle.schema.proofs.Bits.{bit_zero}
+use Rattle.schema.proofs.Bits.{member_zero}
 
 -- a limit grows with the counts
 limit_more : (c p : ℕ) (k : Kind) → c ≤ 64 → p ≤ 32 → limit c p k ≤ limit 64 32 k
@@ -63,25 +64,25 @@ module _ (rows : List Row) (set : ℕ) (told : Shared rows set) where
 
 -- one more row
 pub shared_none : Shared [] 0
-shared_none = record { only = λ q m. absurd (let z : ◌≡◌ {A = ℕ} 0 1 = sym (bit_zero q) ∙ m in omega arith); all = λ p q h e. absurd h }
+shared_none = record { only = λ q m. absurd (member_zero 0 q refl m); all = λ p q h e. absurd (not_in_empty h) }
 
 pub shared_other : (rows : List Row) (set : ℕ) (r : Row) → (r.letter ≡ 80 → r.a ≡ r.b) → Shared rows set → Shared (rows ++ r ∷ []) set
 shared_other rows set r f t =
     record {
-      only = λ q m. let s = t.only q m in (s.0, ∈_left (row (P s.0 q)) rows (r ∷ []) s.1, s.2);
+      only = λ q m. let s = t.only q m in (s.0, Contains-append_left rows (r ∷ []) (row (P s.0 q)) s.1, s.2);
       all = λ p q h e. ⊎_elim (λ (k : Has rows (P p q)). t.all p q k e)
-          (λ (k : row (P p q) ≡ r).
-          absurd (e (ap (λ (x : Row). x.a) k ∙ f (sym (ap (λ (x : Row). x.letter) k)) ∙ sym (ap (λ (x : Row). x.b) k))))
-          (∈_push (row (P p q)) r rows h);
+          (λ (k : r ≡ row (P p q)).
+          absurd (e (sym (ap (λ (x : Row). x.a) k) ∙ f (ap (λ (x : Row). x.letter) k) ∙ ap (λ (x : Row). x.b) k)))
+          (Contains-push_cases rows r (row (P p q)) h);
     }
 
 pub shared_more : (rows : List Row) (set v : ℕ) (r : Row) → r.letter ≡ 80 → r.n ≡ 0 → (r.a ≡ r.b → ⊥) → Joins set r.b v → Shared rows set → Shared (rows ++ r ∷ []) v
 shared_more rows set v r l z e j t =
     record {
-      only = λ q m. ⊎_elim (λ (k : Member set q). let s = t.only q k in (s.0, ∈_left (row (P s.0 q)) rows (r ∷ []) s.1, s.2))
-          (λ (k : q ≡ r.b). (r.a, subst (λ (x : Row). x ∈ (rows ++ r ∷ [])) (sym (row_is r 80 r.a q 0 l refl (sym k) z)) (∈_last r rows), λ x. e (x ∙ k)))
+      only = λ q m. ⊎_elim (λ (k : Member set q). let s = t.only q k in (s.0, Contains-append_left rows (r ∷ []) (row (P s.0 q)) s.1, s.2))
+          (λ (k : q ≡ r.b). (r.a, subst (λ (x : Row). x ∈ (rows ++ r ∷ [])) (sym (row_is r 80 r.a q 0 l refl (sym k) z)) (Contains-push rows r), λ x. e (x ∙ k)))
           (j.only q m);
       all = λ p q h n. ⊎_elim (λ (k : Has rows (P p q)). j.kept q (t.all p q k n))
-          (λ (k : row (P p q) ≡ r). subst (Member v) (sym (ap (λ (x : Row). x.b) k)) j.new)
-          (∈_push (row (P p q)) r rows h);
+          (λ (k : r ≡ row (P p q)). subst (Member v) (ap (λ (x : Row). x.b) k) j.new)
+          (Contains-push_cases rows r (row (P p q)) h);
     }

@@ -1,20 +1,17 @@
 -- A set that a loop gathers.
-use Rattle.std.proofs.Common.{◌≡◌, ℕ, ◌+◌, ◌<◌, ◌≤◌, sym, ◌∙◌, subst, ⊎_elim, not-suc-le-zero, arith}
+use Rattle.std.proofs.Common.{◌≡◌, ℕ, ◌+◌, ◌<◌, ◌≤◌, refl, sym, subst, ⊎_elim, not-suc-le-zero, arith}
 use Rattle.std.proofs.lemmas.Bool.{cases_lt}
 use Rattle.schema.specs.Masks.{Member, Joins, Gathers}
-use Rattle.schema.proofs.Bits.{bit_zero}
+use Rattle.schema.proofs.Bits.{member_zero}
 
 -- at first nothing is gathered
 pub gathers_none : {Fact : ℕ → Type 0} → Gathers Fact 0 0
 gathers_none =
     record {
-      small = λ k m. absurd (empty k m);
-      only = λ k m. absurd (empty k m);
+      small = λ k m. absurd (member_zero 0 k refl m);
+      only = λ k m. absurd (member_zero 0 k refl m);
       all = λ k h f. absurd (not-suc-le-zero h);
     }
-  where
-    empty : (k : ℕ) → Member 0 k → ⊥
-    empty k m = let z : ◌≡◌ {A = ℕ} 0 1 = sym (bit_zero k) ∙ m in omega arith
 
 -- one more of which the fact holds
 pub gathers_more : {Fact : ℕ → Type 0} {n m r : ℕ} → Gathers Fact n m → Fact n → Joins m n r → Gathers Fact (n + 1) r

@@ -1,52 +1,35 @@
 -- One of a list.
-use Rattle.std.proofs.Common.{◌≡◌, ℕ, zero, suc, ◌+◌, ◌<◌, ◌≤◌, ◌⊎◌, List, [], ◌∷◌, ◌++◌, length, get_or, take, Some, None, sym, refl, ap, ◌∙◌, subst, inl, inr, le_of_suc-le-suc, not-suc-le-zero, arith}
+use Rattle.std.proofs.Common.{◌≡◌, ℕ, zero, suc, ◌+◌, ◌<◌, ◌≤◌, ◌⊎◌, List, [], ◌∷◌, ◌++◌, length, get_or, take, Some, None, sym, ap, ◌∙◌, subst, inl, inr, le_of_suc-le-suc, not-suc-le-zero, arith}
 use Rattle.std.proofs.lemmas.List.{take_more}
-use Rattle.std.proofs.lemmas.Option.{slice_get-get_or}
+use Rattle.std.proofs.lemmas.List.Elements.{All-contains, All-from_get_or}
+use Rattle.std.proofs.lemmas.Option.{slice_get-get_or, slice_get_within, get_or_from_slice_get}
 use Rattle.std.specs.List.{slice_get}
 use Rattle.schema.specs.Rows.{◌∈◌}
 
 module _ {A : Type 0} where
-  pub ∈_left : (x : A) (xs ys : List A) → x ∈ xs → x ∈ (xs ++ ys)
-  ∈_left x [] ys h = absurd h
-  ∈_left x (y ∷ xs) ys (inl e) = inl e
-  ∈_left x (y ∷ xs) ys (inr h) = inr (∈_left x xs ys h)
+  -- the first of a list, where that is x
+  pub here : {x y : A} (ys : List A) → y ≡ x → x ∈ (y ∷ ys)
+  here ys e = (0, omega arith, e)
 
-  pub ∈_right : (x : A) (xs ys : List A) → x ∈ ys → x ∈ (xs ++ ys)
-  ∈_right x [] ys h = h
-  ∈_right x (y ∷ xs) ys h = inr (∈_right x xs ys h)
+  -- one of the others
+  pub there : {x y : A} (ys : List A) → x ∈ ys → x ∈ (y ∷ ys)
+  there ys (k, l, e) = (suc k, omega arith, e)
 
-  -- the last of a list
-  pub ∈_last : (x : A) (xs : List A) → x ∈ (xs ++ x ∷ [])
-  ∈_last x xs = ∈_right x xs (x ∷ []) (inl refl)
+  pub not_in_empty : {x : A} → x ∈ [] → ⊥
+  not_in_empty (k, l, e) = not-suc-le-zero l
 
-  -- one of a list with one more is one of the list or that one
-  pub ∈_push : (x y : A) (xs : List A) → x ∈ (xs ++ y ∷ []) → (x ∈ xs) ⊎ (x ≡ y)
-  ∈_push x y [] (inl e) = inr e
-  ∈_push x y [] (inr h) = absurd h
-  ∈_push x y (z ∷ xs) (inl e) = inl (inl e)
-  ∈_push x y (z ∷ xs) (inr h) = on (∈_push x y xs h)
-    where
-      on : (x ∈ xs) ⊎ (x ≡ y) → (x ∈ (z ∷ xs)) ⊎ (x ≡ y)
-      on (inl m) = inl (inr m)
-      on (inr e) = inr e
-
-  -- what stands at a place is one of the list
-  pub ∈_at : (xs : List A) (i : ℕ) (d : A) → i < length xs → get_or xs i d ∈ xs
-  ∈_at [] i d h = absurd (not-suc-le-zero h)
-  ∈_at (x ∷ xs) zero d h = inl refl
-  ∈_at (x ∷ xs) (suc i) d h = inr (∈_at xs i d (le_of_suc-le-suc h))
+  -- it is the first or one of the others
+  pub here_or_there : {x y : A} (ys : List A) → x ∈ (y ∷ ys) → (y ≡ x) ⊎ (x ∈ ys)
+  here_or_there ys (zero, l, e) = inl e
+  here_or_there ys (suc k, l, e) = inr (k, le_of_suc-le-suc l, e)
 
   -- what stands at a place, if anything does, is one of the list
   pub nth_∈ : (x : A) (xs : List A) (i : ℕ) → slice_get xs i ≡ Some x → x ∈ xs
-  nth_∈ x [] i e = absurd (let z : ◌≡◌ {A = ℕ} 0 1 = cc in omega arith)
-  nth_∈ x (y ∷ xs) zero e = inl (cc)
-  nth_∈ x (y ∷ xs) (suc i) e = inr (nth_∈ x xs i e)
+  nth_∈ x xs i e = (i, slice_get_within xs i x e, get_or_from_slice_get xs i x x e)
 
   -- what holds at each place holds of each of the list
   pub every_∈ : (P : A → Type 0) (xs : List A) (d : A) → ((k : ℕ) → k < length xs → P (get_or xs k d)) → (x : A) → x ∈ xs → P x
-  every_∈ P [] d f x h = absurd h
-  every_∈ P (y ∷ xs) d f x (inl e) = subst P (sym e) (f 0 (omega arith))
-  every_∈ P (y ∷ xs) d f x (inr h) = every_∈ P xs d (λ k l. f (suc k) (omega arith)) x h
+  every_∈ P xs d f x h = All-contains P xs x (All-from_get_or P xs d f) h
 
   -- what holds at each place below k holds of each row below k
   pub each_below : (P : A → Type 0) (xs : List A) (k : ℕ) (d : A) → k ≤ length xs → ((j : ℕ) → j < k → P (get_or xs j d)) → (j : ℕ) (x : A) → j < k → slice_get xs j ≡ Some x → P x

@@ -1,11 +1,12 @@
 -- The places of the ones are exactly the places that a table marks, and they rise.
-use Rattle.std.proofs.Common.{◌≡◌, ℕ, zero, suc, ◌+◌, ◌-◌, ◌<◌, ◌≤◌, cond, List, [], ◌∷◌, length, get_or, ap, ◌∙◌, inl, inr, zero-add, arith}
+use Rattle.std.proofs.Common.{◌≡◌, ℕ, zero, suc, ◌+◌, ◌-◌, ◌<◌, ◌≤◌, cond, List, [], ◌∷◌, length, get_or, ap, ◌∙◌, inl, inr, zero-add, arith, sym}
 use native.Mathlib.Nat.{sub-zero}
 use Rattle.std.proofs.lemmas.Bool.{eq-eqb, ne_eqb, cases_eq}
 use Rattle.schema.specs.Rows.{◌∈◌}
 use Rattle.schema.specs.Verdicts.{Bit}
 use Rattle.schema.specs.Reports.{Rising, Lists}
 use Rattle.schema.specs.Printing.{ones_from}
+use Rattle.schema.proofs.Members.{here, there, not_in_empty, here_or_there}
 
 -- a 1 in front is the first place
 ones_yes : (j b : ℕ) (bs : List ℕ) → b ≡ 1 → ones_from j (b ∷ bs) ≡ j ∷ ones_from (j + 1) bs
@@ -29,10 +30,10 @@ read_more j b bs k h =
 
 -- each place is within the table and holds 1
 pub ones_only : (j : ℕ) (bs : List ℕ) (k : ℕ) → k ∈ ones_from j bs → (j ≤ k) × (k < j + length bs) × (get_or bs (k - j) 0 ≡ 1)
-ones_only j [] k h = absurd h
+ones_only j [] k h = absurd (not_in_empty h)
 ones_only j (b ∷ bs) k m =
     ones_by (λ l. k ∈ l → (j ≤ k) × (k < j + length (b ∷ bs)) × (get_or (b ∷ bs) (k - j) 0 ≡ 1)) j b bs
-    (λ e h. elim h [
+    (λ e h. elim (here_or_there (ones_from (j + 1) bs) h) [
       | inl p ↦ let z : k - j ≡ 0 = omega arith in (omega arith, omega arith, ap (λ i. get_or (b ∷ bs) i 0) z ∙ e)
       | inr t ↦ read_more j b bs k (ones_only (j + 1) bs k t)
     ])
@@ -44,11 +45,11 @@ pub ones_all : (j : ℕ) (bs : List ℕ) (i : ℕ) → i < length bs → get_or 
 ones_all j [] i h e = absurd (let z : ⊥ = omega arith in z)
 ones_all j (b ∷ bs) zero h e =
     let z : j + 0 ≡ j = omega arith in
-    ones_by (λ l. (j + 0) ∈ l) j b bs (λ _. inl z) (λ no_one. absurd (no_one e))
+    ones_by (λ l. (j + 0) ∈ l) j b bs (λ _. here (ones_from (j + 1) bs) (sym z)) (λ no_one. absurd (no_one e))
 ones_all j (b ∷ bs) (suc i) h e =
     let z : (j + 1) + i ≡ j + suc i = omega arith in
     let later : (j + suc i) ∈ ones_from (j + 1) bs = rw z at (ones_all (j + 1) bs i (omega arith) e) in
-    ones_by (λ l. (j + suc i) ∈ l) j b bs (λ _. inr later) (λ _. later)
+    ones_by (λ l. (j + suc i) ∈ l) j b bs (λ _. there (ones_from (j + 1) bs) later) (λ _. later)
 
 -- the places rise
 pub ones_rising : (j : ℕ) (bs : List ℕ) → Rising (ones_from j bs)

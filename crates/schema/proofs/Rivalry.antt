@@ -1,12 +1,13 @@
 -- Two classes that a key leads to, one the class of an X or a K row and the other its rival: what the key leads to
 -- clashes. Here it matters that no cap stands on an arrow that another leads to.
 use Rattle.std.proofs.Common.{◌≡◌, ℕ, ◌<◌, ◌≤◌, ◌⊎◌, List, [], ◌∷◌, ◌++◌, length, get_or, set, replicate, sym, refl, ap, ◌∙◌, subst, inl, inr, ⊎_elim, arith, get_or-set_other, get_or-set_same}
+use Rattle.std.proofs.lemmas.List.Elements.{Contains-append_left, Contains-push, Contains-push_cases}
 use Rattle.std.proofs.lemmas.Bool.{cases_eq, cases_lt}
 use Rattle.search.specs.Leads.{Leads, stay, go}
 use Rattle.search.proofs.Trails.{leads_then}
 use Rattle.schema.specs.declared.row.Row.{Row}
 use Rattle.schema.specs.declared.descriptions.Descriptions.{Descriptions}
-use Rattle.schema.specs.Masks.{bit, Member, Gathers}
+use Rattle.schema.specs.Masks.{Member, Gathers}
 use Rattle.schema.specs.Points.{count, Built}
 use Rattle.schema.specs.Rows.{◌∈◌, AllSound}
 use Rattle.schema.specs.Rules.{X, F, K, row, Has, arrow, side}
@@ -15,8 +16,8 @@ use Rattle.schema.specs.Verdicts.{NoSharedCap}
 use Rattle.schema.specs.Webs.{Description, cls, mark, Link, by_S, by_F, by_D, down, by_P, Apart, by_X, by_K, ArrowLink, Clashing}
 use Rattle.schema.proofs.Building.{row_is, fits_at, zeros_at}
 use Rattle.schema.proofs.KeyReach.{keyed_class, keyed_end}
-use Rattle.schema.proofs.Bits.{bit_zero}
-use Rattle.schema.proofs.Members.{∈_left, ∈_last, ∈_push}
+use Rattle.schema.proofs.Bits.{member_zero}
+use Rattle.schema.proofs.Members.{not_in_empty}
 
 -- arrows of two ends lead on, at the same side
 abbrev Chain : List Row → ℕ → ℕ → Type 0
@@ -121,8 +122,8 @@ module _ (rows : List Row) (sound : AllSound 64 32 rows) (uncapped : NoSharedCap
 pub rivals_none : (w : Descriptions) → RivalSets w [] (replicate 64 0)
 rivals_none w =
     record {
-      only = λ a b m. absurd (let z : ◌≡◌ {A = ℕ} 0 1 = sym (ap (bit b) (zeros_at 64 a) ∙ bit_zero b) ∙ m in omega arith);
-      all = λ r b m. absurd m;
+      only = λ a b m. absurd (member_zero _ b (zeros_at 64 a) m);
+      all = λ r b m. absurd (not_in_empty m);
     }
 
 module _ (w : Descriptions) (rows : List Row) (r : Row) (sets : List ℕ) (told : RivalSets w rows sets) where
@@ -130,8 +131,8 @@ module _ (w : Descriptions) (rows : List Row) (r : Row) (sets : List ℕ) (told 
   pub rivals_other : ((b : ℕ) → b < 64 → Rival w r b → ⊥) → RivalSets w (rows ++ r ∷ []) sets
   rivals_other f =
       record {
-        only = λ a b m. let v = told.only a b m in (v.0, ∈_left v.0 rows (r ∷ []) v.1, v.2, v.3, v.4);
-        all = λ q b m l v. ⊎_elim (λ (h : q ∈ rows). told.all q b h l v) (λ (e : q ≡ r). absurd (f b l (subst (λ (x : Row). Rival w x b) e v))) (∈_push q r rows m);
+        only = λ a b m. let v = told.only a b m in (v.0, Contains-append_left rows (r ∷ []) v.0 v.1, v.2, v.3, v.4);
+        all = λ q b m l v. ⊎_elim (λ (h : q ∈ rows). told.all q b h l v) (λ (e : r ≡ q). absurd (f b l (subst (λ (x : Row). Rival w x b) (sym e) v))) (Contains-push_cases rows r q m);
       }
 
   -- one more row, its rivals put into the set of its class
@@ -144,12 +145,12 @@ module _ (w : Descriptions) (rows : List Row) (r : Row) (sets : List ℕ) (told 
       same a e = ap (λ (i : ℕ). get_or (set sets r.a v) i 0) e ∙ get_or-set_same sets r.a v 0 l
 
       old : (a b : ℕ) → Member (get_or sets a 0) b → (q : Row) × (q ∈ (rows ++ r ∷ [])) × (q.a ≡ a) × (b < 64) × Rival w q b
-      old a b m = let t = told.only a b m in (t.0, ∈_left t.0 rows (r ∷ []) t.1, t.2, t.3, t.4)
+      old a b m = let t = told.only a b m in (t.0, Contains-append_left rows (r ∷ []) t.0 t.1, t.2, t.3, t.4)
 
       here : (a b : ℕ) → Member (get_or (set sets r.a v) a 0) b → a ≡ r.a → (q : Row) × (q ∈ (rows ++ r ∷ [])) × (q.a ≡ a) × (b < 64) × Rival w q b
       here a b m e =
           ⊎_elim (λ (h : Member (get_or sets r.a 0) b). old a b (subst (λ (i : ℕ). Member (get_or sets i 0) b) (sym e) h))
-          (λ (h : (b < 64) × Rival w r b). (r, ∈_last r rows, sym e, h.0, h.1))
+          (λ (h : (b < 64) × Rival w r b). (r, Contains-push rows r, sym e, h.0, h.1))
           (only b (subst (λ (s : ℕ). Member s b) (same a e) m))
 
       there : (a b : ℕ) → Member (get_or (set sets r.a v) a 0) b → (a ≡ r.a → ⊥) → (q : Row) × (q ∈ (rows ++ r ∷ [])) × (q.a ≡ a) × (b < 64) × Rival w q b
@@ -164,5 +165,5 @@ module _ (w : Descriptions) (rows : List Row) (r : Row) (sets : List ℕ) (told 
       more : (q : Row) (b : ℕ) → q ∈ (rows ++ r ∷ []) → b < 64 → Rival w q b → Member (get_or (set sets r.a v) q.a 0) b
       more q b m h x =
           ⊎_elim (λ (t : q ∈ rows). keep q.a b (told.all q b t h x))
-          (λ (e : q ≡ r). subst (λ (s : ℕ). Member s b) (sym (same q.a (ap (λ (y : Row). y.a) e))) (all b h (subst (λ (y : Row). Rival w y b) e x)))
-          (∈_push q r rows m)
+          (λ (e : r ≡ q). subst (λ (s : ℕ). Member s b) (sym (same q.a (ap (λ (y : Row). y.a) (sym e)))) (all b h (subst (λ (y : Row). Rival w y b) (sym e) x)))
+          (Contains-push_cases rows r q m)

@@ -1,13 +1,14 @@
 -- A text from its lines.
-use Rattle.std.proofs.Common.{◌≡◌, ℕ, suc, ◌+◌, ◌*◌, ◌<◌, ◌≤◌, List, [], ◌∷◌, ◌++◌, length, get_or, take, drop, sym, refl, ap, ◌∙◌, subst, inl, inr, arith, length-append, length-drop, drop-drop, below_more}
+use Rattle.std.proofs.Common.{◌≡◌, ℕ, suc, ◌+◌, ◌*◌, ◌<◌, ◌≤◌, List, [], ◌∷◌, ◌++◌, length, get_or, take, drop, sym, refl, ap, ◌∙◌, subst, arith, length-append, length-drop, drop-drop, below_more}
 use Rattle.std.proofs.lemmas.List.{take-append-drop, nil_from_length, get_or_append_left, get_or_push, take_at, drop_at}
 use Rattle.schema.specs.declared.row.Row.{Row}
 use Rattle.schema.specs.declared.faults.LineFault.{LineFault}
 use Rattle.schema.specs.declared.faults.TextFault.TheVariants.{Line}
-use Rattle.schema.specs.Rows.{Sound, ◌∈◌}
+use Rattle.schema.specs.Rows.{Sound}
 use Rattle.schema.specs.TextSheets.{TextRead}
 use Rattle.schema.specs.Texts.{line_at, row_line, row_lines, IsText, Heads, Until, TextFaulty, row_form, row_unsound}
 use Rattle.schema.specs.Columns.{head_line, LineFaulty, out_of_form, unsound, Headed, RowsRead, blank_row}
+use Rattle.schema.proofs.Members.{every_∈}
 
 -- what line 1 tells, from what was read of it
 pub heads_from : (text : List ℕ) (c p n : ℕ) → 14 ≤ length text → (c ≤ 9999) × (p ≤ 9999) × (n ≤ 9999) × (line_at text 0 ≡ head_line c p n) → Heads text c p n
@@ -63,12 +64,6 @@ lines_join (r ∷ rs) bytes h each =
     ap (take 14) (drop-drop (14 * j) 14 bytes ∙ ap (λ n. drop n bytes) next) ∙ each (suc j) (omega arith)) in
     sym (take-append-drop 14 bytes) ∙ ap (λ y. y ++ drop 14 bytes) (each 0 (omega arith)) ∙ ap (λ y. row_line r ++ y) rest
 
--- what holds at each place of a list holds of each of its members
-each_member : (P : Row → Type 0) (rows : List Row) → ((j : ℕ) → j < length rows → P (get_or rows j blank_row)) → (r : Row) → r ∈ rows → P r
-each_member P [] each r m = absurd m
-each_member P (x ∷ xs) each r (inl e) = subst P (sym e) (each 0 (omega arith))
-each_member P (x ∷ xs) each r (inr m) = each_member P xs (λ j l. each (suc j) (omega arith)) r m
-
 -- a text whose lines have all been read
 text_from : (text : List ℕ) (c p : ℕ) (rows : List Row) → Headed text c p (length rows) → RowsRead text c p rows → IsText text c p rows
 text_from text c p rows h read =
@@ -81,7 +76,7 @@ text_from text c p rows h read =
       few_classes = h.few_classes;
       few_arrows = h.few_arrows;
       few_rows = h.few_rows;
-      sound = each_member (Sound c p) rows (λ j l. (read j l).1);
+      sound = every_∈ (Sound c p) rows blank_row (λ j l. (read j l).1);
       bytes = sym (take-append-drop 14 text) ∙ ap (λ y. y ++ drop 14 text) h.heads.first ∙ ap (λ y. head_line c p (length rows) ++ y) rest;
     }
 

@@ -1,11 +1,12 @@
 -- A text tells its counts and rows, and no others.
-use Rattle.std.proofs.Common.{◌≡◌, ℕ, ◌≤◌, max, true, false, cond, eqb, List, [], ◌∷◌, length, get_or, take, drop, Some, sym, refl, ap, ◌∙◌, inl, inr, arith}
+use Rattle.std.proofs.Common.{◌≡◌, ℕ, ◌≤◌, max, true, false, cond, eqb, List, [], ◌∷◌, length, get_or, take, drop, Some, sym, refl, ap, ◌∙◌, arith}
 use Rattle.schema.specs.declared.row.Row.{Row}
 use Rattle.schema.specs.declared.letters.Kind.{Kind}
 use Rattle.schema.specs.declared.letters.Kind.TheVariants.{Class, Arrow, End}
 use Rattle.schema.specs.declared.letters.Shape.{Shape}
 use Rattle.schema.specs.Rows.{◌∈◌, shapes, shape_in, limit, Fits, Sound}
 use Rattle.schema.specs.Texts.{line, row_line, row_lines, text_of, IsText}
+use Rattle.schema.proofs.Members.{here, there}
 use Rattle.schema.proofs.Building.{row_is}
 use Rattle.schema.proofs.Groups.{group_same}
 
@@ -67,8 +68,8 @@ rows_same [] [] few e = refl
 rows_same [] (q ∷ qs) few e = absurd (let z : ◌≡◌ {A = ℕ} 0 1 = cc in omega arith)
 rows_same (r ∷ rs) [] few e = absurd (let z : ◌≡◌ {A = ℕ} 0 1 = cc in omega arith)
 rows_same (r ∷ rs) (q ∷ qs) few e =
-    let first = row_same r q (few q (inl refl)) (ap (take 14) e) in
-    let rest = rows_same rs qs (λ x m. few x (inr m)) (ap (drop 14) e) in
+    let first = row_same r q (few q (here qs refl)) (ap (take 14) e) in
+    let rest = rows_same rs qs (λ x m. few x (there qs m)) (ap (drop 14) e) in
     ap (λ (x : Row). x ∷ rs) first ∙ ap (λ (xs : List Row). q ∷ xs) rest
 
 -- the counts of a text are few

@@ -1,13 +1,10 @@
 -- Sets of numbers below 64 as the bits of a word. For inner contracts: no call's promise rests on it.
-use Rattle.std.specs.Prelude.{◌≡◌, ℕ, zero, suc, ◌+◌, ◌*◌, ◌/◌, ◌%◌, ◌<◌, min, ◌⊎◌, Some, None, Option}
+use Rattle.std.specs.Prelude.{◌≡◌, ℕ, ◌+◌, ◌*◌, ◌<◌, min, ◌⊎◌, Some, None, Option}
+use Rattle.std.specs.Int.{bit_at}
 
--- the binary digit at place k
-abbrev pub bit : ℕ → ℕ → ℕ
-bit zero m = m % 2
-bit (suc k) m = bit k (m / 2)
-
-abbrev pub Member : ℕ → ℕ → Type 0
-Member m k = bit k m ≡ 1
+-- the bit at place k of m is set
+unfoldable pub Member : ℕ → ℕ → Type 0
+Member m k = bit_at m k ≡ 1
 
 -- the same members, and k
 pub record Joins (m k r : ℕ) : Type 0 where

@@ -5,7 +5,7 @@
 --   Unsound       the lowest unsound field of a row: 1 letter, 2 a, 3 b, 4 n
 --   ◌∈◌           one of a list
 --   AllSound      every row of a list is sound
-use Rattle.std.specs.List.{find}
+use Rattle.std.specs.List.{find, Contains}
 use Rattle.std.specs.Prelude.{◌≡◌, ℕ, ◌*◌, ◌<◌, ◌≤◌, ◌⊎◌, List, [], ◌∷◌, Some, None, Option, ◌==◌}
 use Rattle.schema.specs.declared.row.Row.{Row}
 use Rattle.schema.specs.declared.letters.Kind.{Kind}
@@ -54,8 +54,7 @@ pub data Unsound (c p : ℕ) (r : Row) : ℕ → Type 0 where
 
 infix 4 ◌∈◌
 abbrev pub ◌∈◌ : {A : Type 0} → A → List A → Type 0
-x ∈ [] = ⊥
-x ∈ (y ∷ ys) = (x ≡ y) ⊎ (x ∈ ys)
+x ∈ xs = Contains xs x
 
 abbrev pub AllSound : ℕ → ℕ → List Row → Type 0
 AllSound c p rows = (r : Row) → r ∈ rows → Sound c p r

@@ -33,6 +33,7 @@ impl Set64 {
     }
 
     /// Adds the members of another set.
+    #[tactic(auto, using(std::proofs::lemmas::Nat::Bits::bit_at_or), unfolding(crate::specs::Masks::Member))]
     pub(crate) fn join(&mut self, other: Set64)
         ensures { Unites self.old other self.new }
     {
@@ -40,6 +41,7 @@ impl Set64 {
     }
 
     /// Whether k is a member.
+    #[tactic(auto, unfolding(crate::specs::Masks::Member))]
     pub(crate) fn has(self, k: usize) -> bool
         requires { k < 64 }
         ensures { Tells result (Member self k) }

@@ -18,7 +18,7 @@ pub enum SearchFault {
 }
 
 impl SearchFault {
-    /// The number of the refusal.
+    /// The number of the refusal. A method, as a search knows no notice, and `u16::from` would not say which number it is.
     pub fn number(&self) -> u16
         ensures { result ≡ search_number self.now }
     {
@@ -66,7 +66,8 @@ fn visit<W: Web>(web: &W, from: usize, trail: &mut Trail<'_>)
     ensures grows { Grows (W.Web.link web.now from) trail.old trail.new }
     ensures all { (k : ℕ) → k < W.Web.size web.now → W.Web.link web.now from k → slice_index trail.new.marks.now k ≡ 1 }
 {
-    // A cursor, since `next_link` answers from any place on: an iterator would hold the same cursor in a type more.
+    // A cursor, since `next_link` answers from any place on. With `successors` no proof closed, as the check took no
+    // invariant for a loop over it; an iterator of our own would hold the same cursor in a type more.
     let mut at = 0;
     while let Some(point) = web.next_link(from, at) {
         trail.mark(point);

@@ -1,5 +1,6 @@
 -- Whether another arrow leads to an arrow, and what it means that no cap stands on such an arrow.
-use Rattle.std.proofs.Common.{◌≡◌, ℕ, ◌↔◌, List, [], ◌∷◌, map, refl, subst, inl, inr}
+use Rattle.std.proofs.Common.{◌≡◌, ℕ, ◌↔◌, List, map, refl, subst, ap, ◌∙◌, arith}
+use Rattle.std.proofs.lemmas.List.{get_or-map, length-map}
 use native.Mathlib.Decide.{map_dec, ℕ_discrete}
 use Rattle.search.specs.Leads.{Leads, stay, go}
 use Rattle.search.proofs.Trails.{leads_one}
@@ -17,9 +18,7 @@ Uncapped rows = (a e n : ℕ) → Has rows (K a e n) → Alone rows (arrow e)
 
 -- what is one of a list is, with a function applied, one of the list with it applied
 ∈_map : {A B : Type 0} (f : A → B) (x : A) (xs : List A) → x ∈ xs → f x ∈ map f xs
-∈_map f x [] h = absurd h
-∈_map f x (y ∷ ys) (inl e) = inl (λ i. f (e i))
-∈_map f x (y ∷ ys) (inr h) = inr (∈_map f x ys h)
+∈_map f x xs (k, l, e) = (k, omega (arith, length-map xs f), get_or-map f xs k x (f x) l ∙ ap f e)
 
 -- a P row from another arrow to arrow a
 abbrev Other : List Row → ℕ → Type 0

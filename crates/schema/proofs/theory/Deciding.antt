@@ -1,8 +1,9 @@
 -- Deciding: connectives, and lists of which one has a property.
-use Rattle.std.proofs.Common.{◌≡◌, ℕ, zero, suc, ◌<◌, Bool, true, false, T, ◌⊎◌, List, [], ◌∷◌, refl, subst, inl, inr, arith}
+use Rattle.std.proofs.Common.{◌≡◌, ℕ, zero, suc, ◌<◌, Bool, true, false, T, ◌⊎◌, List, [], ◌∷◌, refl, subst, inl, inr, arith, sym, ⊎_elim}
 use mathlib.Core.HLevel.{Discrete}
 use native.Mathlib.Decide.{map_dec}
 use Rattle.schema.specs.Rows.{◌∈◌}
+use Rattle.schema.proofs.Members.{here, there, not_in_empty, here_or_there}
 use Rattle.schema.proofs.theory.Ends.{order}
 
 -- both of two, the second where the first holds
@@ -54,21 +55,21 @@ truth_write (no h) x = absurd (h x)
 module _ {A : Type 0} where
   -- one of a list, where two of its kind can be told apart
   pub in? : Discrete A → (x : A) (xs : List A) → Dec (x ∈ xs)
-  in? d x [] = no (λ h. h)
-  in? d x (y ∷ ys) = or? (d x y) (in? d x ys)
+  in? d x [] = no not_in_empty
+  in? d x (y ∷ ys) = map_dec (λ m. ⊎_elim (here ys) (there ys) m) (here_or_there ys) (or? (d y x) (in? d x ys))
 
   -- some one of a list has a property
   some_of? : {Q : A → Type 0} → ((x : A) → Dec (Q x)) → (ks : List A) → Dec ((x : A) × (x ∈ ks) × Q x)
-  some_of? f [] = no (λ h. h.1)
+  some_of? f [] = no (λ h. not_in_empty h.1)
   some_of? {Q} f (k ∷ ks) = on (f k) (some_of? f ks)
     where
       on : Dec (Q k) → Dec ((x : A) × (x ∈ ks) × Q x) → Dec ((x : A) × (x ∈ (k ∷ ks)) × Q x)
-      on (yes q) r = yes (k, inl refl, q)
-      on (no h) (yes r) = yes (r.0, inr r.1, r.2)
-      on (no h) (no g) = no (λ t. split t.0 t.2 t.1)
+      on (yes q) r = yes (k, here ks refl, q)
+      on (no h) (yes r) = yes (r.0, there ks r.1, r.2)
+      on (no h) (no g) = no (λ t. split t.0 t.2 (here_or_there ks t.1))
         where
-          split : (x : A) → Q x → (x ≡ k) ⊎ (x ∈ ks) → ⊥
-          split x q (inl e) = h (subst Q e q)
+          split : (x : A) → Q x → (k ≡ x) ⊎ (x ∈ ks) → ⊥
+          split x q (inl e) = h (subst Q (sym e) q)
           split x q (inr m) = g (x, m, q)
 
   -- something has a property, where all that have it are listed
@@ -85,6 +86,6 @@ pub below_in : (n k : ℕ) → k < n → k ∈ below n
 below_in zero k h = absurd (omega arith)
 below_in (suc n) k h = on (order k n (omega arith)) (λ l. below_in n k l)
   where
-    on : (k ≡ n) ⊎ (k < n) → (k < n → k ∈ below n) → (k ≡ n) ⊎ (k ∈ below n)
-    on (inl e) f = inl e
-    on (inr l) f = inr (f l)
+    on : (k ≡ n) ⊎ (k < n) → (k < n → k ∈ below n) → k ∈ (n ∷ below n)
+    on (inl e) f = here (below n) (sym e)
+    on (inr l) f = there (below n) (f l)

@@ -1,5 +1,5 @@
 -- In every world that fulfils the rows, what is told empty is empty and what is answered yes is fulfilled.
-use Rattle.std.proofs.Common.{◌≡◌, ℕ, zero, suc, ◌+◌, ◌*◌, ◌%◌, ◌≤◌, List, [], ◌∷◌, length, sym, refl, subst, inl, inr, arith}
+use Rattle.std.proofs.Common.{◌≡◌, ℕ, zero, suc, ◌+◌, ◌*◌, ◌%◌, ◌≤◌, List, [], ◌∷◌, length, refl, subst, inl, inr, arith}
 use Rattle.search.specs.Leads.{Leads, stay, go}
 use Rattle.schema.specs.declared.row.Row.{Row}
 use Rattle.schema.specs.Rows.{◌∈◌}
@@ -8,6 +8,7 @@ use Rattle.schema.specs.Worlds.{World, Individual, In, Pair, Meets, AtLeast, Ful
 use Rattle.schema.specs.Webs.{Description, cls, mark, Link, by_S, by_F, by_D, down, by_P, ArrowLink, Apart, by_X, by_K, ArrowApart, Clashing}
 use Rattle.schema.specs.Webs.{Name, desc, arr, Empty, clash, leads, clash_arrow, of_end, of_arrow}
 use Rattle.schema.specs.Questions.{Parted, Yes}
+use Rattle.schema.proofs.Members.{here, not_in_empty, here_or_there}
 use Rattle.schema.proofs.theory.Statements.{AlwaysHolds}
 use Rattle.schema.proofs.theory.Counting.{Part, fewer}
 
@@ -33,8 +34,8 @@ single w e i j h =
     record {
       who = j ∷ [];
       many = refl;
-      different = (λ m. m, tt);
-      meeting = λ k m. elim m [ inl e' ↦ subst (Meets w e i) (sym e') h | inr n ↦ absurd n ];
+      different = (not_in_empty, tt);
+      meeting = λ k m. elim (here_or_there [] m) [ inl e' ↦ subst (Meets w e i) e' h | inr n ↦ absurd (not_in_empty n) ];
     }
 
 -- whoever has the end at least once meets one
@@ -43,7 +44,7 @@ first w e i s = head s.who s.many s.meeting
   where
     head : (js : List Individual) → length js ≡ 1 → ((j : Individual) → j ∈ js → Meets w e i j) → (j : Individual) × Meets w e i j
     head [] l m = absurd (omega arith)
-    head (j ∷ js) l m = (j, m j (inl refl))
+    head (j ∷ js) l m = (j, m j (here js refl))
 
 -- where no individual has an end, its arrow has no pair
 at_end : (w : World) (e : ℕ) → ((i : Individual) → AtLeast w e 1 i → ⊥) → ArrowEmpty w (arrow e)

@@ -5,6 +5,7 @@ use Rattle.schema.specs.Rows.{◌∈◌, AllSound}
 use Rattle.schema.specs.Rules.{arrow}
 use Rattle.schema.specs.Worlds.{World, Individual, In, Pair, Meets, AtLeast}
 use Rattle.schema.specs.Webs.{cls, mark, Alone}
+use Rattle.schema.proofs.Members.{here}
 use Rattle.schema.proofs.theory.Ends.{opp, head_end}
 use Rattle.schema.proofs.theory.Counting.{reaches, firsts, firsts_length, firsts_from, firsts_distinct}
 use Rattle.schema.proofs.theory.Individuals.{Ind, code, decode, decode_code, code_injective, neighbour, neighbour_injective}
@@ -119,7 +120,7 @@ module _ (c p : ℕ) (rows : List Row) (sound : AllSound c p rows) (Let : Indivi
           → Stands Let i × Is c p rows (decode i) (mark e 1)
       head [] l m = absurd (omega arith)
       head (j ∷ js) l m =
-          let r = meets_read e i j (m j (inl refl)) in (r.0, next_mark c p rows sound (decode i) e (decode j) r.1.1)
+          let r = meets_read e i j (m j (here js refl)) in (r.0, next_mark c p rows sound (decode i) e (decode j) r.1.1)
 
   -- and at an arrow that no other leads to any count is exact
   pub some_get : (e n : ℕ) (i : Individual) → Alone rows (arrow e) → AtLeast world e (suc n) i → Is c p rows (decode i) (mark e (suc n))

@@ -1,11 +1,12 @@
 -- Deciding what leads to what in a web whose points are listed.
-use Rattle.std.proofs.Common.{◌≡◌, ◌⊎◌, List, [], ◌∷◌, refl, subst, inl, inr}
+use Rattle.std.proofs.Common.{◌≡◌, zero, suc, ◌⊎◌, List, [], ◌∷◌, refl, sym, subst, inl, inr, le_of_suc-le-suc}
 use mathlib.Core.HLevel.{Discrete}
 use native.Mathlib.Decide.{map_dec}
 use Rattle.search.specs.Leads.{Leads, stay, go}
 use Rattle.search.proofs.Trails.{leads_one, leads_both}
 use Rattle.schema.specs.Rows.{◌∈◌}
 use Rattle.schema.specs.Webs.{Clashing}
+use Rattle.schema.proofs.Members.{not_in_empty}
 use Rattle.schema.proofs.theory.Deciding.{both?, or?, any?}
 
 module _ {A : Type 0} (R : A → A → Type 0) where
@@ -26,8 +27,8 @@ module _ {A : Type 0} (R : A → A → Type 0) where
 
   -- two ways join at one of ks
   via_join : (ks : List A) (a b c : A) → b ∈ ks → Via ks a b → Via ks b c → Via ks a c
-  via_join [] a b c m p q = absurd m
-  via_join (k ∷ ks) a b c (inl e) p q = inr (before (subst (λ x. Via (k ∷ ks) a x) e p), after (subst (λ x. Via (k ∷ ks) x c) e q))
+  via_join [] a b c m p q = absurd (not_in_empty m)
+  via_join (k ∷ ks) a b c (zero, l, e) p q = inr (before (subst (λ x. Via (k ∷ ks) a x) (sym e) p), after (subst (λ x. Via (k ∷ ks) x c) (sym e) q))
     where
       before : Via (k ∷ ks) a k → Via ks a k
       before (inl v) = v
@@ -36,10 +37,10 @@ module _ {A : Type 0} (R : A → A → Type 0) where
       after : Via (k ∷ ks) k c → Via ks k c
       after (inl v) = v
       after (inr (v, u)) = u
-  via_join (k ∷ ks) a b c (inr m) (inl p) (inl q) = inl (via_join ks a b c m p q)
-  via_join (k ∷ ks) a b c (inr m) (inl p) (inr (q, q')) = inr (via_join ks a b k m p q, q')
-  via_join (k ∷ ks) a b c (inr m) (inr (p, p')) (inl q) = inr (p, via_join ks k b c m p' q)
-  via_join (k ∷ ks) a b c (inr m) (inr (p, p')) (inr (q, q')) = inr (p, q')
+  via_join (k ∷ ks) a b c (suc n, l, e) (inl p) (inl q) = inl (via_join ks a b c (n, le_of_suc-le-suc l, e) p q)
+  via_join (k ∷ ks) a b c (suc n, l, e) (inl p) (inr (q, q')) = inr (via_join ks a b k (n, le_of_suc-le-suc l, e) p q, q')
+  via_join (k ∷ ks) a b c (suc n, l, e) (inr (p, p')) (inl q) = inr (p, via_join ks k b c (n, le_of_suc-le-suc l, e) p' q)
+  via_join (k ∷ ks) a b c (suc n, l, e) (inr (p, p')) (inr (q, q')) = inr (p, q')
 
   -- such a way leads
   via_leads : (ks : List A) (x y : A) → Via ks x y → Leads R x y

@@ -1,4 +1,5 @@
 use Rattle.std.proofs.Common.{◌≡◌, ℕ, ◌/◌, get_or, subst, arith, below_more}
+use Rattle.std.proofs.lemmas.List.Elements.{Contains-get_or}
 use Rattle.std.proofs.lemmas.Option.{slice_get-get_or}
 use Rattle.schema.specs.declared.row.Row.{Row}
 use Rattle.schema.specs.Checks.{Shared}
@@ -9,14 +10,14 @@ use Rattle.schema.specs.Rules.{arrow}
 use Rattle.schema.specs.Verdicts.{CapsShared, Small, capped}
 use Rattle.schema.proofs.Building.{fits_at}
 use Rattle.schema.proofs.Caps.{caps, no_caps, no_cap_letter}
-use Rattle.schema.proofs.Members.{∈_at, each_below, every_∈}
+use Rattle.schema.proofs.Members.{each_below, every_∈}
 use Rattle.schema.proofs.checks.check_caps.Goals as goal
 use Rattle.schema.proofs.checks.check_caps.Goals.{else-row-eq75-via-then-row-eq75+else-has, else-row-eq75-via-else-row-eq75}
 
 pub has-requires : goal.has-requires
 has-requires c =
     let rows = c.rows-rows.result.now in
-    let f = fits_at (get_or rows c.loop-k.k blank_row) 75 c.if-row-eq75.true (c.rows-rows.ensures.sound _ (∈_at rows c.loop-k.k blank_row c.loop-k-test.true)) in
+    let f = fits_at (get_or rows c.loop-k.k blank_row) 75 c.if-row-eq75.true (c.rows-rows.ensures.sound _ (Contains-get_or rows c.loop-k.k blank_row c.loop-k-test.true)) in
     omega (arith, f.1, c.from.ensures)
 
 pub returns-then-has : goal.returns-then-has

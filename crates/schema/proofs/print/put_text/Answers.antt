@@ -1,11 +1,11 @@
 use Rattle.std.proofs.Common.{List, length, get_or, refl, ap, ◌∙◌, subst, arith}
+use Rattle.std.proofs.lemmas.List.Elements.{Contains-get_or}
 use Rattle.std.proofs.lemmas.List.{take_all}
 use Rattle.schema.specs.declared.row.Row.{Row}
 use Rattle.schema.specs.Rows.{◌∈◌}
 use Rattle.schema.specs.Columns.{blank_row}
 use Rattle.schema.specs.Printing.{spliced}
 use Rattle.schema.specs.Texts.{row_lines}
-use Rattle.schema.proofs.Members.{∈_at}
 use Rattle.schema.proofs.RowLines.{lines_more, text_begun}
 use Rattle.schema.proofs.Uniques.{sound_few}
 use Rattle.schema.proofs.print.put_text.Goals as goal
@@ -16,7 +16,7 @@ put_line-requires-in-loop-k c =
     let rows = c.rows-rows.result.now in
     let k = c.loop-k.k in
     let few = sound_few sheet.classes sheet.arrows (get_or rows k blank_row) sheet.small.few_classes sheet.small.few_arrows
-    (sheet.sound (get_or rows k blank_row) (subst (λ (rs : List Row). get_or rows k blank_row ∈ rs) c.rows-rows.ensures.same (∈_at rows k blank_row c.loop-k-test.true))) in
+    (sheet.sound (get_or rows k blank_row) (subst (λ (rs : List Row). get_or rows k blank_row ∈ rs) c.rows-rows.ensures.same (Contains-get_or rows k blank_row c.loop-k-test.true))) in
     (omega (arith, few.a_few), (omega (arith, few.b_few), (omega (arith, few.n_few), omega (arith, c.loop-k.auto.bytes, c.requires, ap length c.rows-rows.ensures.same))))
 
 pub loop-k-preserved : goal.loop-k-preserved

@@ -1,4 +1,5 @@
 use Rattle.std.proofs.Common.{◌≡◌, ℕ, ◌<◌, List, [], ◌∷◌, ◌++◌, length, get_or, take, sym, ap, ◌∙◌, subst, inl, inr, ⊎_elim, arith}
+use Rattle.std.proofs.lemmas.List.Elements.{Contains-get_or}
 use Rattle.std.proofs.lemmas.List.{get_or_default, take_more}
 use Rattle.schema.specs.declared.descriptions.Descriptions.{Descriptions}
 use Rattle.schema.specs.declared.row.Row.{Row}
@@ -6,7 +7,6 @@ use Rattle.schema.specs.Masks.{Member, Unites, Gathers}
 use Rattle.schema.specs.Points.{count}
 use Rattle.schema.specs.Keys.{Rival, apart, needs_more, RivalSets}
 use Rattle.schema.proofs.Building.{fits_at, joins_at}
-use Rattle.schema.proofs.Members.{∈_at}
 use Rattle.schema.proofs.Rivalry.{rivals_none, rivals_other, rivals_more}
 use Rattle.schema.proofs.rivals.list_rivals.Goals as goal
 use Rattle.schema.proofs.rivals.list_rivals.Goals.{in-88, in-75, in_default}
@@ -33,16 +33,16 @@ needing_at w e x cap set p g = subst (λ (i : ℕ). Gathers (λ a. cap < count w
 
 -- each row that has rivals is between classes, or between a class and an end
 pub bounds-rivals-a : goal.bounds-rivals-a
-bounds-rivals-a c = let f = fits_at _ 88 c.in-88.is (c.rows-row-items.ensures.sound _ (∈_at c.rows-row-items.result.now c.loop-row.row-index _ c.loop-row-test.true)) in omega (arith, f.0, c.from-a.ensures)
+bounds-rivals-a c = let f = fits_at _ 88 c.in-88.is (c.rows-row-items.ensures.sound _ (Contains-get_or c.rows-row-items.result.now c.loop-row.row-index _ c.loop-row-test.true)) in omega (arith, f.0, c.from-a.ensures)
 
 pub insert-requires : goal.insert-requires
-insert-requires c = let f = fits_at _ 88 c.in-88.is (c.rows-row-items.ensures.sound _ (∈_at c.rows-row-items.result.now c.loop-row.row-index _ c.loop-row-test.true)) in omega (arith, f.1, c.from-b.ensures)
+insert-requires c = let f = fits_at _ 88 c.in-88.is (c.rows-row-items.ensures.sound _ (Contains-get_or c.rows-row-items.result.now c.loop-row.row-index _ c.loop-row-test.true)) in omega (arith, f.1, c.from-b.ensures)
 
 pub bounds-rivals-a-in-75 : goal.bounds-rivals-a-in-75
-bounds-rivals-a-in-75 c = let f = fits_at _ 75 c.in-75.is (c.rows-row-items.ensures.sound _ (∈_at c.rows-row-items.result.now c.loop-row.row-index _ c.loop-row-test.true)) in omega (arith, f.0, c.from-a.ensures)
+bounds-rivals-a-in-75 c = let f = fits_at _ 75 c.in-75.is (c.rows-row-items.ensures.sound _ (Contains-get_or c.rows-row-items.result.now c.loop-row.row-index _ c.loop-row-test.true)) in omega (arith, f.0, c.from-a.ensures)
 
 pub needing_more-requires : goal.needing_more-requires
-needing_more-requires c = let f = fits_at _ 75 c.in-75.is (c.rows-row-items.ensures.sound _ (∈_at c.rows-row-items.result.now c.loop-row.row-index _ c.loop-row-test.true)) in omega (arith, f.1, c.from-b.ensures)
+needing_more-requires c = let f = fits_at _ 75 c.in-75.is (c.rows-row-items.ensures.sound _ (Contains-get_or c.rows-row-items.result.now c.loop-row.row-index _ c.loop-row-test.true)) in omega (arith, f.1, c.from-b.ensures)
 
 pub listed : goal.listed
 listed c = omega (arith, bounds-rivals-a c)
@@ -60,7 +60,7 @@ loop-row-preserved c =
     let i = c.loop-row.row-index in
     let none : Row = record { letter = 0; a = 0; b = 0; n = 0 } in
     let r = get_or rows i none in
-    let sound = c.rows-row-items.ensures.sound r (∈_at rows i none c.loop-row-test.true) in
+    let sound = c.rows-row-items.ensures.sound r (Contains-get_or rows i none c.loop-row-test.true) in
     let sets = c.loop-row.rivals in
     subst (λ (rs : List Row). RivalSets w rs c.match-row.rivals) (sym (take_more rows i none c.loop-row-test.true))
     (elim c.match-row.branch [

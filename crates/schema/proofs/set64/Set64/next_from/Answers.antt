@@ -1,33 +1,54 @@
-use Rattle.std.proofs.Common.{◌≡◌, ℕ, ◌+◌, ◌-◌, ◌/◌, ◌^◌, ◌<◌, ◌≤◌, Some, None, sym, ap, ◌∙◌, subst, arith}
-use lib.Count.{count_trailing_zeros}
+use Rattle.std.proofs.Common.{◌≡◌, ℕ, ◌+◌, ◌-◌, ◌/◌, ◌^◌, ◌<◌, ◌≤◌, Some, None, sym, ap, ◌∙◌, subst, ⊎_elim, rules, arith}
+use lib.Count.{count_trailing_zeros, trailing_of_zero}
+use Rattle.std.proofs.Math.Nat.{div-le_self}
+use Rattle.std.proofs.lemmas.Bool.{cases_eq}
+use Rattle.std.proofs.lemmas.Nat.Bits.{bit_at-trailing_zeros}
+use Rattle.std.specs.Int.{w64, bit_at}
 use Rattle.search.specs.Leads.{NextLink}
-use Rattle.schema.specs.Masks.{bit, Member}
-use Rattle.schema.proofs.Bits.{bit_shift, bit_trailing, bit_below_trailing}
+use Rattle.schema.specs.Masks.{Member}
+use Rattle.schema.proofs.Bits.{member_zero, bit_at_shift}
 use Rattle.schema.proofs.set64.Set64.next_from.Goals as goal
 
--- below the first set bit of what is left there is no member
-before : (m from k : ℕ) → from ≤ k → k < from + count_trailing_zeros 64 (m / 2 ^ from) → Member m k → ⊥
-before m from k l h e =
-    let i : k - from + from ≡ k = omega arith in
-    let z : bit (k - from) (m / 2 ^ from) ≡ 0 = bit_below_trailing 64 (m / 2 ^ from) (k - from) (omega arith) in
-    let o : bit (k - from) (m / 2 ^ from) ≡ 1 = bit_shift from (k - from) m ∙ ap (λ (x : ℕ). bit x m) i ∙ e in
-    omega arith
+module _ (m from : ℕ) (fits : m < 2 ^ 64) where
+  -- what is left from `from` on, and its trailing zeros
+  abbrev rest : ℕ
+  rest = m / 2 ^ from
 
-here : (m from : ℕ) → count_trailing_zeros 64 (m / 2 ^ from) < 64 → Member m (from + count_trailing_zeros 64 (m / 2 ^ from))
-here m from h =
-    let t = count_trailing_zeros 64 (m / 2 ^ from) in
-    let i : from + t ≡ t + from = omega arith in
-    ap (λ (x : ℕ). bit x m) i ∙ sym (bit_shift from t m) ∙ bit_trailing 64 (m / 2 ^ from) h
+  abbrev zeros : ℕ
+  zeros = count_trailing_zeros 64 rest
 
-some : (m from : ℕ) → from + count_trailing_zeros 64 (m / 2 ^ from) < 64 → NextLink 64 (Member m) from (Some (from + count_trailing_zeros 64 (m / 2 ^ from)))
-some m from h = (omega arith, h, here m from (omega arith), λ k l i e. before m from k l i e)
+  lowest : (rest ≡ 0 → ⊥) → Member rest zeros × ((k : ℕ) → k < zeros → bit_at rest k ≡ 0)
+  unfolding Member
+  lowest h =
+      let low = bit_at-trailing_zeros w64 rest (omega arith) (omega (arith, div-le_self m (2 ^ from))) in
+      (low.1, low.2)
+
+  before : (k : ℕ) → from ≤ k → k < from + zeros → Member m k → ⊥
+  unfolding Member
+  before k l h e =
+      let i : from + (k - from) ≡ k = omega arith in
+      let o : Member rest (k - from) = bit_at_shift m from (k - from) ∙ ap (bit_at m) i ∙ e in
+      ⊎_elim
+      (λ (z : rest ≡ 0). member_zero rest (k - from) z o)
+      (λ (z : rest ≡ 0 → ⊥). omega (arith, o, (lowest z).1 (k - from) (omega arith)))
+      (cases_eq rest 0)
+
+  here : zeros < 64 → Member m (from + zeros)
+  unfolding Member
+  here h =
+      ⊎_elim
+      (λ (z : rest ≡ 0). absurd (omega (arith, h, ap (count_trailing_zeros 64) z, trailing_of_zero 64)))
+      (λ (z : rest ≡ 0 → ⊥). sym (bit_at_shift m from zeros) ∙ (lowest z).0)
+      (cases_eq rest 0)
+
+  some : from + zeros < 64 → NextLink 64 (Member m) from (Some (from + zeros))
+  some h = (omega arith, h, here (omega arith), before)
 
 pub returns-then-found-lt64 : goal.returns-then-found-lt64
 returns-then-found-lt64 c =
-    let m = c.self.inside.bits in
-    subst (λ (x : ℕ). NextLink 64 (Member x) c.args.from (Some (c.args.from + count_trailing_zeros 64 (m / 2 ^ c.args.from)))) c.self.view_is
-    (some m c.args.from c.if-found-lt64.true)
+    subst (λ (x : ℕ). NextLink 64 (Member x) c.args.from (Some (c.args.from + count_trailing_zeros 64 (c.self.inside.bits / 2 ^ c.args.from)))) c.self.view_is
+    (some c.self.inside.bits c.args.from (search rules) c.if-found-lt64.true)
 
 pub returns-else-found-lt64 : goal.returns-else-found-lt64
 returns-else-found-lt64 c =
-    subst (λ (x : ℕ). NextLink 64 (Member x) c.args.from None) c.self.view_is (λ k l h e. before c.self.inside.bits c.args.from k l (omega arith) e)
+    subst (λ (x : ℕ). NextLink 64 (Member x) c.args.from None) c.self.view_is (λ k l h e. before c.self.inside.bits c.args.from (search rules) k l (omega arith) e)
