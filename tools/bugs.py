@@ -48,7 +48,7 @@ BUGS = [
     ("loading asks for fewer classes", "schema", "src/loading.rt",
      "    if told.classes() > sheet.classes() ||", "    if told.classes() >= sheet.classes() ||"),
     ("printing swaps the counts", "schema", "src/print.rt",
-     "        sheet.classes,\n        sheet.arrows,\n", "        sheet.arrows,\n        sheet.classes,\n"),
+     "        a: sheet.classes,\n        b: sheet.arrows,\n", "        a: sheet.arrows,\n        b: sheet.classes,\n"),
     ("a cap on a shared arrow passes at its head", "schema", "src/checks.rt",
      "row.letter == b'P' && row.a != row.b", "row.letter == b'P' && row.a < row.b"),
     ("a set loses a member", "schema", "src/set64.rt",
