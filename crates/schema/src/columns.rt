@@ -10,7 +10,7 @@ pub(crate) struct Stray {
 }
 
 /// The number in four columns, the first of which is `column`.
-// By hand, since a fault tells its column, and bytes that are no text have one too.
+// By hand, since `parse` reads text, which the bytes may not be, and tells no column.
 pub(crate) fn read_group(bytes: [u8; 4], column: u16) -> Result<u16, Stray>
     requires { (length bytes ≡ 4) × (column ≤ 14) }
     ensures { MatchResult result (λ v. (v ≤ 9999) × (bytes ≡ group v)) (λ e. (j : ℕ) × (j < 4) × (e.column ≡ column + j) × Strays Group bytes j) }

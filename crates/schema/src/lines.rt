@@ -58,13 +58,8 @@ pub(crate) fn row_line(bytes: &[u8], number: u16, header: Header) -> Result<Row,
     requires { length bytes.now ≡ 14 }
     ensures { MatchResult result (λ row. (bytes.now ≡ row_line row) × Sound header.classes header.arrows row) (λ e. LineFaulty bytes.now number header.classes header.arrows e) }
 {
-    let parts = read_line(bytes, number, begins_row)?;
-    let row = Row {
-        letter: parts.letter,
-        a: parts.a,
-        b: parts.b,
-        n: parts.n,
-    };
+    let Line { letter, a, b, n } = read_line(bytes, number, begins_row)?;
+    let row = Row { letter, a, b, n };
     match unsound_field(row, header.classes, header.arrows) {
         Some(field) => Err(LineFault::UnsoundLine {
             line: number,
@@ -74,8 +69,8 @@ pub(crate) fn row_line(bytes: &[u8], number: u16, header: Header) -> Result<Row,
     }
 }
 
-// Whether a letter is one of those that begin the line of a row.
-// They are named here beside the table `SHAPES`, since a match is one jump and the table a search.
+// Whether a letter begins the line of a row. By a match, which the project's rules want of a line's letter, so that the
+// seven of `SHAPES` stand here again.
 fn begins_row(letter: u8) -> bool
     ensures { Decides result (RowLetter letter) }
 {

@@ -8,6 +8,7 @@ use crate::faults::{PrintFault, ReprintFault};
 use crate::limits::LINE_BYTES;
 use crate::lines::Line;
 use crate::printing::put_line;
+use crate::row::Row;
 use crate::sheet::Sheet;
 use crate::sound_sheet::SoundSheet;
 use crate::text_sheet::TextSheet;
@@ -57,14 +58,10 @@ fn put_text(bytes: &mut [u8], sheet: &SoundSheet) -> usize
         n: rows.len() as u16,
     };
     put_line(bytes, 0, header);
-    // by number, since `chunks_exact_mut` says nothing of what it wrote
+    // by number: after a loop over `chunks_exact_mut` nothing is known of what it wrote
     for (k, row) in rows.iter().enumerate() {
-        let parts = Line {
-            letter: row.letter,
-            a: row.a,
-            b: row.b,
-            n: row.n,
-        };
+        let Row { letter, a, b, n } = *row;
+        let parts = Line { letter, a, b, n };
         put_line(bytes, LINE_BYTES * (k + 1), parts);
     }
     LINE_BYTES * (rows.len() + 1)

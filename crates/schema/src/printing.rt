@@ -45,24 +45,12 @@ pub(crate) fn put_names(bytes: &mut [u8], at: usize, letter: u8, table: &[u8]) -
 fn line_of(parts: Line) -> [u8; LINE_BYTES]
     ensures { result ≡ line parts.letter parts.a parts.b parts.n }
 {
-    let [a0, a1, a2, a3] = group_of(parts.a);
-    let [b0, b1, b2, b3] = group_of(parts.b);
-    let [n0, n1, n2, n3] = group_of(parts.n);
+    let Line { letter, a, b, n } = parts;
+    let [a0, a1, a2, a3] = group_of(a);
+    let [b0, b1, b2, b3] = group_of(b);
+    let [n0, n1, n2, n3] = group_of(n);
     [
-        parts.letter,
-        a0,
-        a1,
-        a2,
-        a3,
-        b0,
-        b1,
-        b2,
-        b3,
-        n0,
-        n1,
-        n2,
-        n3,
-        b'\n',
+        letter, a0, a1, a2, a3, b0, b1, b2, b3, n0, n1, n2, n3, b'\n',
     ]
 }
 
