@@ -1,9 +1,10 @@
 -- Where a line strays from its form, from where a part of it does.
-use Rattle.std.proofs.Common.{◌≡◌, ℕ, suc, ◌+◌, ◌-◌, ◌<◌, ◌≤◌, List, [], ◌∷◌, ◌++◌, length, get_or, take, drop, sym, refl, ap, ◌∙◌, subst, add-suc, arith}
+use Rattle.std.proofs.Common.{◌≡◌, ℕ, suc, ◌+◌, ◌-◌, ◌<◌, ◌≤◌, List, [], ◌∷◌, ◌++◌, length, get_or, take, drop, sym, refl, ap, ◌∙◌, subst, add-suc, arith, Bool, true, false, Decides}
 use lib.Seq.{take-append-le, take-append-add}
+use Rattle.std.proofs.lemmas.Bool.Decides.{not_from_Decides}
 use Rattle.std.proofs.lemmas.List.{drop_at}
 use Rattle.schema.specs.Texts.{group, line, WellFormed, BadColumn}
-use Rattle.schema.specs.Columns.{Strays, Group, Feed, Then, Tail, tail}
+use Rattle.schema.specs.Columns.{Strays, Group, Feed, Then, Tail, tail, LineStrays, wrong_letter, wrong_tail}
 
 module _ (F G : List ℕ → Type 0) (m : ℕ) (long : (x : List ℕ) → F x → length x ≡ m) where
   -- a fault in the first part, if there is anything to go on with
@@ -71,13 +72,10 @@ two_some = (group 0, group 0 ++ 10 ∷ [], (0, omega arith, refl), three_some, r
 pub feed_strays : (x : ℕ) → (x ≡ 10 → ⊥) → Strays Feed (x ∷ []) 0
 feed_strays x bad = record { alike = (10 ∷ [], refl, refl); none = λ m f e. bad (ap (λ y. get_or y 0 0) (sym e ∙ ap (take 1) f)) }
 
--- three groups and the line feed, one after another
-pub numbers_spelled : {first bs ns rest : List ℕ} (a b n x : ℕ) → first ≡ group a → rest ≡ bs ++ (ns ++ x ∷ []) → bs ≡ group b → ns ≡ group n → x ≡ 10 → first ++ rest ≡ tail a b n
-numbers_spelled a b n x p r q s e = rw (p, r, q, s, e)
-
--- a line is its letter and its tail
-pub line_spelled : {bytes l : List ℕ} (x a b n : ℕ) → bytes ≡ x ∷ l → l ≡ tail a b n → bytes ≡ line x a b n
-line_spelled x a b n p q = p ∙ ap (λ y. x ∷ y) q
+-- a letter, three groups and the line feed, one after another
+pub line_spelled : {bytes first bs ns : List ℕ} (x a b n feed : ℕ) → bytes ≡ x ∷ (first ++ (bs ++ (ns ++ feed ∷ []))) → first ≡ group a → bs ≡ group b → ns ≡ group n → feed ≡ 10
+    → bytes ≡ line x a b n
+line_spelled x a b n feed is p q s e = is ∙ rw (p, q, s, e) refl
 
 -- a line from its letter and its tail
 whole : (Letter : ℕ → Type 0) (x : ℕ) (l : List ℕ) → Letter x → Tail l → WellFormed Letter (x ∷ l)
@@ -104,7 +102,7 @@ tail_in_form : (a b n : ℕ) → a ≤ 9999 → b ≤ 9999 → n ≤ 9999 → Ta
 tail_in_form a b n ha hb hn = (group a, _, (a, ha, refl), (group b, _, (b, hb, refl), (group n, _, (n, hn, refl), refl, refl), refl), refl)
 
 -- a line with a right letter strays where its tail does
-pub tail_strays : (Letter : ℕ → Type 0) {bytes : List ℕ} (x : ℕ) (l : List ℕ) (k : ℕ) → bytes ≡ x ∷ l → Letter x → Strays Tail l k → BadColumn Letter bytes (k + 2)
+tail_strays : (Letter : ℕ → Type 0) {bytes : List ℕ} (x : ℕ) (l : List ℕ) (k : ℕ) → bytes ≡ x ∷ l → Letter x → Strays Tail l k → BadColumn Letter bytes (k + 2)
 tail_strays Letter x l k line-is begins s =
     let two : k + 2 ≡ suc (suc k) = omega arith in
     let one : suc (suc k) - 1 ≡ suc k = omega arith in
@@ -117,7 +115,7 @@ tail_strays Letter x l k line-is begins s =
     })
 
 -- a line that begins with a wrong letter strays at once
-pub letter_strays : (Letter : ℕ → Type 0) {bytes : List ℕ} (x : ℕ) (l : List ℕ) (good : ℕ) → bytes ≡ x ∷ l → Letter good → (Letter x → ⊥) → BadColumn Letter bytes 1
+letter_strays : (Letter : ℕ → Type 0) {bytes : List ℕ} (x : ℕ) (l : List ℕ) (good : ℕ) → bytes ≡ x ∷ l → Letter good → (Letter x → ⊥) → BadColumn Letter bytes 1
 letter_strays Letter x l good line-is begins bad = rw line-is (record {
   counted = omega arith;
   alike = (line good 0 0 0, whole Letter good (tail 0 0 0) begins (tail_in_form 0 0 0 (omega arith) (omega arith) (omega arith)), refl);
@@ -125,3 +123,9 @@ letter_strays Letter x l good line-is begins bad = rw line-is (record {
       let same : w.letter ≡ x = ap (λ y. get_or y 0 0) (ap (take 1) (sym w.spelled) ∙ e) in
       bad (subst Letter same w.begins);
 })
+
+-- where a line strays, as its reading tells
+pub bad_column : (Letter : ℕ → Type 0) (good : ℕ) → Letter good → (Begins : ℕ → Bool → Type 0) → ((x : ℕ) (b : Bool) → Begins x b → Decides b (Letter x))
+    → {bytes : List ℕ} {column : ℕ} → LineStrays Begins bytes column → BadColumn Letter bytes column
+bad_column Letter good stands Begins decides (wrong_letter x l line-is post first) = rw first (letter_strays Letter x l good line-is stands (not_from_Decides _ (decides x false post) refl))
+bad_column Letter good stands Begins decides (wrong_tail x l k line-is post s at) = rw at (tail_strays Letter x l k line-is ((decides x true post).0 refl) s)

@@ -1,7 +1,8 @@
 -- A group, column by column.
-use Rattle.std.proofs.Common.{◌≡◌, ℕ, zero, suc, ◌-◌, ◌*◌, ◌/◌, ◌^◌, ◌<◌, ◌≤◌, Bool, true, false, eqb, List, ◌++◌, length, get_or, take, drop, sym, refl, ap, ◌∙◌, pow-suc, arith, take-suc}
+use Rattle.std.proofs.Common.{◌≡◌, ℕ, zero, suc, ◌-◌, ◌*◌, ◌/◌, ◌^◌, ◌<◌, ◌≤◌, Bool, true, false, eqb, List, ◌++◌, length, get_or, take, drop, sym, refl, ap, ◌∙◌, pow-suc, arith, take-suc, Option, Some, None, Result, ok_or, MatchOption, MatchResult, ◌≢◌}
 use Rattle.std.proofs.lemmas.List.{same_from_push, take-append-drop}
 use Rattle.std.proofs.lemmas.Bool.{eqb-true, eqb-false}
+use Rattle.schema.specs.declared.columns.Stray.{Stray}
 use Rattle.schema.specs.Texts.{group}
 use Rattle.schema.specs.Columns.{mark, Strays, Group}
 
@@ -90,7 +91,7 @@ module _ {bytes : List ℕ} (long : 4 ≤ length bytes) {j v : ℕ} (here : j < 
       (sym (shed_next j w here) ∙ begun.only w h s.0, sym s.1 ∙ column_is j w here)
 
   -- a column that fits
-  pub begun_more : (x : ℕ) → (get_or bytes j 0 ≡ mark (eqb j 3) x) × (x / 10 ≡ v) → Begun bytes (suc j) x
+  begun_more : (x : ℕ) → (get_or bytes j 0 ≡ mark (eqb j 3) x) × (x / 10 ≡ v) → Begun bytes (suc j) x
   begun_more x (byte, over) = record {
     small = let s : v < 10 ^ j = begun.small in rw pow-suc (omega arith);
     only = λ w h e. let b = before w h e in let k : 4 - suc j ≡ 3 - j = omega arith in rw k (mark_apart (eqb j 3) (shed (3 - j) w) x (sym b.1 ∙ byte) (b.0 ∙ sym over));
@@ -99,7 +100,7 @@ module _ {bytes : List ℕ} (long : 4 ≤ length bytes) {j v : ℕ} (here : j < 
   }
 
   -- a column that does not
-  pub begun_strays : ((x : ℕ) → x / 10 ≡ v → get_or bytes j 0 ≡ mark (eqb j 3) x → ⊥) → Strays Group bytes j
+  begun_strays : ((x : ℕ) → x / 10 ≡ v → get_or bytes j 0 ≡ mark (eqb j 3) x → ⊥) → Strays Group bytes j
   begun_strays bad =
       let w = pad (4 - j) v in
       let h : w ≤ 9999 = pad_fits j v (omega arith) begun.small in
@@ -107,6 +108,13 @@ module _ {bytes : List ℕ} (long : 4 ≤ length bytes) {j v : ℕ} (here : j < 
         alike = (group w, (w, h, refl), begun.each w h (shed_pad (4 - j) v));
         none = λ l f e. let b = before f.0 f.1 (ap (take (suc j)) (sym f.2) ∙ e) in bad (shed (3 - j) f.0) b.0 b.1;
       }
+
+  -- a column, as it was read
+  pub group_step : (o : Option ℕ) (e : Stray) {r : Result ℕ Stray} → r ≡ ok_or o e
+      → MatchOption o ((x : ℕ) → x / 10 ≡ v → get_or bytes j 0 ≢ mark (eqb j 3) x) (λ x. (get_or bytes j 0 ≡ mark (eqb j 3) x) × (x / 10 ≡ v))
+      → MatchResult r (Begun bytes (suc j)) (λ f. (f ≡ e) × Strays Group bytes j)
+  group_step None e is bad = rw is (refl, begun_strays bad)
+  group_step (Some x) e is fits = rw is (begun_more x fits)
 
 -- four columns that fit are the group of a number
 pub begun_whole : (bytes : List ℕ) (v : ℕ) → Begun bytes 4 v → (v ≤ 9999) × (bytes ≡ group v ++ drop 4 bytes)

@@ -3,11 +3,12 @@
 --   Strays        the first column, from 0, at which nothing of a form begins alike
 --   Group, Tail   the forms of a group, and of a line after its letter
 --   tail          such a line after its letter
+--   LineStrays    the first column, from 1, at which a line strays
 --   head_line     the line of a header
 --   LineFaulty    why a row's line is refused
 --   Headed        a text that passes the checks before those of its rows
 --   RowsRead      what the lines of the first rows say
-use Rattle.std.specs.Prelude.{◌≡◌, ℕ, suc, ◌+◌, ◌*◌, ◌%◌, ◌<◌, ◌≤◌, Bool, cond, List, [], ◌∷◌, ◌++◌, length, take, ◌==◌, ◌≢◌, slice_index_or}
+use Rattle.std.specs.Prelude.{◌≡◌, ℕ, suc, ◌+◌, ◌*◌, ◌%◌, ◌<◌, ◌≤◌, Bool, true, false, cond, List, [], ◌∷◌, ◌++◌, length, take, ◌==◌, ◌≢◌, slice_index_or}
 use Rattle.schema.specs.declared.row.Row.{Row}
 use Rattle.schema.specs.declared.faults.LineFault.{LineFault}
 use Rattle.schema.specs.declared.faults.LineFault.TheVariants.{Form, UnsoundLine}
@@ -38,6 +39,11 @@ Tail = Then Group (Then Group (Then Group Feed))
 
 abbrev pub tail : ℕ → ℕ → ℕ → List ℕ
 tail a b n = group a ++ (group b ++ (group n ++ 10 ∷ []))
+
+-- the letter is wrong, or something after a letter that may begin the line
+pub data LineStrays (Begins : ℕ → Bool → Type 0) (bytes : List ℕ) (column : ℕ) : Type 0 where
+  wrong_letter : (x : ℕ) (l : List ℕ) → bytes ≡ x ∷ l → Begins x false → column ≡ 1 → LineStrays Begins bytes column
+  wrong_tail : (x : ℕ) (l : List ℕ) (k : ℕ) → bytes ≡ x ∷ l → Begins x true → Strays Tail l k → column ≡ k + 2 → LineStrays Begins bytes column
 
 -- line 1 of a text
 abbrev pub head_line : ℕ → ℕ → ℕ → List ℕ

@@ -1,12 +1,12 @@
 //! Lines: a letter, three numbers of four columns each and a line feed.
-ghost use Rattle.std.specs.Prelude.{◌≡◌, ℕ, ◌+◌, ◌≤◌, ◌++◌, true, false, length, Decides, MatchResult};
+ghost use Rattle.std.specs.Prelude.{◌≡◌, ℕ, ◌≤◌, true, length, Decides, MatchResult};
 ghost use Rattle.schema.specs.Rows.{Sound};
-ghost use Rattle.schema.specs.Texts.{row_line, BadColumn, RowLetter};
+ghost use Rattle.schema.specs.Texts.{line, row_line, BadColumn, RowLetter};
 ghost use Rattle.schema.specs.Texts.{Header as HeaderLetter};
-ghost use Rattle.schema.specs.Columns.{head_line, tail, Tail, Strays, LineFaulty};
+ghost use Rattle.schema.specs.Columns.{head_line, LineStrays, LineFaulty};
 ghost use Rattle.schema.specs.declared.faults.LineFault.TheVariants.{Form};
 
-use crate::columns::read_group;
+use crate::columns::{Stray, read_group};
 use crate::faults::{ColumnFault, LineFault};
 use crate::letters::unsound_field;
 use crate::row::Row;
@@ -22,6 +22,16 @@ const THIRD: u16 = 10;
 
 const FEED: u16 = 14;
 
+/// What a line says: a letter, which may be any byte, and three numbers that fit their columns.
+#[derive(Clone, Copy)]
+pub(crate) struct Line {
+    pub letter: u8,
+    pub a: u16,
+    pub b: u16,
+    pub n: u16,
+    ghost fits: { (a ≤ 9999) × (b ≤ 9999) × (n ≤ 9999) },
+}
+
 /// What line 1 tells.
 #[derive(Clone, Copy, PartialEq, Eq, Debug)]
 pub(crate) struct Header {
@@ -35,73 +45,72 @@ pub(crate) fn header_line(bytes: &[u8]) -> Result<Header, LineFault>
     requires { length bytes.now ≡ 14 }
     ensures { MatchResult result (λ h. (h.classes ≤ 9999) × (h.arrows ≤ 9999) × (h.rows ≤ 9999) × (bytes.now ≡ head_line h.classes h.arrows h.rows)) (λ e. (k : ℕ) × (e ≡ Form (record { line = 1; column = k })) × BadColumn HeaderLetter bytes.now k) }
 {
-    let [letter, a0, a1, a2, a3, rest @ ..] = bytes else {
-        unreachable()
-    };
-    // a byte, since a line may begin with any
-    expect(*letter == b'H', 1, LETTER)?;
-    let (classes, arrows, rows) = read_numbers([*a0, *a1, *a2, *a3], rest, 1)?;
+    let parts = read_line(bytes, 1, |letter| letter == b'H')?;
     Ok(Header {
-        classes,
-        arrows,
-        rows,
+        classes: parts.a,
+        arrows: parts.b,
+        rows: parts.n,
     })
 }
 
 /// The line of a row, which is in form and sound for the counts of the header.
-pub(crate) fn row_line(bytes: &[u8], line: u16, header: Header) -> Result<Row, LineFault>
+pub(crate) fn row_line(bytes: &[u8], number: u16, header: Header) -> Result<Row, LineFault>
     requires { length bytes.now ≡ 14 }
-    ensures { MatchResult result (λ row. (bytes.now ≡ row_line row) × Sound header.classes header.arrows row) (λ e. LineFaulty bytes.now line header.classes header.arrows e) }
+    ensures { MatchResult result (λ row. (bytes.now ≡ row_line row) × Sound header.classes header.arrows row) (λ e. LineFaulty bytes.now number header.classes header.arrows e) }
 {
-    let [letter, a0, a1, a2, a3, rest @ ..] = bytes else {
-        unreachable()
-    };
-    expect(begins_row(*letter), line, LETTER)?;
-    let (a, b, n) = read_numbers([*a0, *a1, *a2, *a3], rest, line)?;
-    let row = Row {
-        letter: *letter,
-        a,
-        b,
-        n,
-    };
+    let Line { letter, a, b, n } = read_line(bytes, number, begins_row)?;
+    let row = Row { letter, a, b, n };
     match unsound_field(row, header.classes, header.arrows) {
-        Some(field) => Err(LineFault::UnsoundLine { line, field }),
+        Some(field) => Err(LineFault::UnsoundLine {
+            line: number,
+            field,
+        }),
         None => Ok(row),
     }
 }
 
-// Whether a letter is one of those that begin the line of a row. A byte, since a line may begin with any.
+// Whether a letter begins the line of a row. By a match, which the project's rules want of a line's letter, so that the
+// seven of `SHAPES` stand here again.
 fn begins_row(letter: u8) -> bool
     ensures { Decides result (RowLetter letter) }
 {
-    match letter {
-        b'S' | b'X' | b'D' | b'F' | b'K' | b'P' | b'Q' => true,
-        _ => false,
-    }
+    matches!(letter, b'S' | b'X' | b'D' | b'F' | b'K' | b'P' | b'Q')
 }
 
-// Passes a column that is as it should be. Line and column come apart, since a fault is made only where one is wrong.
-fn expect(good: bool, line: u16, column: u16) -> Result<(), ColumnFault>
-    ensures { MatchResult result (λ _. good ≡ true) (λ e. (e ≡ record { line = line; column = column }) × (good ≡ false)) }
+// A line in form, with a letter that may begin it.
+fn read_line<F: Fn(u8) -> bool>(bytes: &[u8], number: u16, begins: F) -> Result<Line, ColumnFault>
+    requires callable { F.IsAlwaysCallable begins }
+    requires long { length bytes.now ≡ 14 }
+    ensures { MatchResult result (λ l. F.post begins l.letter true × (bytes.now ≡ line l.letter l.a l.b l.n)) (λ e. (e.line ≡ number) × LineStrays (F.post begins) bytes.now e.column) }
 {
-    if good {
-        Ok(())
-    } else {
-        Err(ColumnFault { line, column })
-    }
+    read_parts(bytes, begins).map_err(|stray| ColumnFault {
+        line: number,
+        column: stray.column,
+    })
 }
 
-// The three numbers of a line, from its first group and what comes after that, up to the line feed.
-fn read_numbers(first: [u8; 4], rest: &[u8], line: u16) -> Result<(u16, u16, u16), ColumnFault>
-    requires { (length first ≡ 4) × (length rest.now ≡ 9) }
-    ensures { MatchResult result (λ x. (x.0 ≤ 9999) × (x.1 ≤ 9999) × (x.2 ≤ 9999) × (first ++ rest.now ≡ tail x.0 x.1 x.2)) (λ e. (k : ℕ) × (e ≡ record { line = line; column = k + 2 }) × Strays Tail (first ++ rest.now) k) }
+// The parts of a line, or the first column that is out of form.
+fn read_parts<F: Fn(u8) -> bool>(bytes: &[u8], begins: F) -> Result<Line, Stray>
+    requires callable { F.IsAlwaysCallable begins }
+    requires long { length bytes.now ≡ 14 }
+    ensures { MatchResult result (λ l. F.post begins l.letter true × (bytes.now ≡ line l.letter l.a l.b l.n)) (λ e. LineStrays (F.post begins) bytes.now e.column) }
 {
-    let [b0, b1, b2, b3, n0, n1, n2, n3, feed] = rest else {
+    let [letter, a0, a1, a2, a3, b0, b1, b2, b3, n0, n1, n2, n3, feed] = bytes else {
         unreachable()
     };
-    let a = read_group(first, line, FIRST)?;
-    let b = read_group([*b0, *b1, *b2, *b3], line, SECOND)?;
-    let n = read_group([*n0, *n1, *n2, *n3], line, THIRD)?;
-    expect(*feed == b'\n', line, FEED)?;
-    Ok((a, b, n))
+    if !begins(*letter) {
+        return Err(Stray { column: LETTER });
+    }
+    let a = read_group([*a0, *a1, *a2, *a3], FIRST)?;
+    let b = read_group([*b0, *b1, *b2, *b3], SECOND)?;
+    let n = read_group([*n0, *n1, *n2, *n3], THIRD)?;
+    if *feed != b'\n' {
+        return Err(Stray { column: FEED });
+    }
+    Ok(Line {
+        letter: *letter,
+        a,
+        b,
+        n,
+    })
 }

@@ -6,7 +6,9 @@ ghost use Rattle.schema.specs.Texts.{text_of};
 
 use crate::faults::{PrintFault, ReprintFault};
 use crate::limits::LINE_BYTES;
+use crate::lines::Line;
 use crate::printing::put_line;
+use crate::row::Row;
 use crate::sheet::Sheet;
 use crate::sound_sheet::SoundSheet;
 use crate::text_sheet::TextSheet;
@@ -48,18 +50,19 @@ fn put_text(bytes: &mut [u8], sheet: &SoundSheet) -> usize
     ensures { Begun (text_of sheet.now.classes sheet.now.arrows sheet.now.rows.items) bytes.old result bytes.new }
 {
     let rows = sheet.rows();
-    // a cast, since `try_from` would add an error that cannot come
-    put_line(
-        bytes,
-        0,
-        b'H',
-        sheet.classes,
-        sheet.arrows,
-        rows.len() as u16,
-    );
+    let header = Line {
+        letter: b'H',
+        a: sheet.classes,
+        b: sheet.arrows,
+        // a cast, since `try_from` would add an error that cannot come
+        n: rows.len() as u16,
+    };
+    put_line(bytes, 0, header);
+    // by number: after a loop over `chunks_exact_mut` nothing is known of what it wrote
     for (k, row) in rows.iter().enumerate() {
-        let at = LINE_BYTES * (k + 1);
-        put_line(bytes, at, row.letter, row.a, row.b, row.n);
+        let Row { letter, a, b, n } = *row;
+        let parts = Line { letter, a, b, n };
+        put_line(bytes, LINE_BYTES * (k + 1), parts);
     }
     LINE_BYTES * (rows.len() + 1)
 }

@@ -1,19 +1,20 @@
 //! Writing lines: a letter, three numbers in four columns each, and a line feed.
-ghost use Rattle.std.specs.Prelude.{◌≡◌, ◌+◌, ◌*◌, ◌%◌, ◌≤◌, ◌++◌, length, take, drop, if◌then◌else◌, nat_eq};
+ghost use Rattle.std.specs.Prelude.{◌≡◌, ◌+◌, ◌*◌, ◌%◌, ◌≤◌, length, if◌then◌else◌, nat_eq};
 ghost use Rattle.schema.specs.Texts.{group, line};
 ghost use Rattle.schema.specs.Printing.{spliced, ones_from};
 ghost use Rattle.schema.specs.Reports.{name_lines};
 
 use crate::limits::LINE_BYTES;
+use crate::lines::Line;
 
 // The place goes beside the bytes: a writer would borrow them, and each contract would have to tell what it gives back.
 
 /// Writes a line from `at` on.
-pub(crate) fn put_line(bytes: &mut [u8], at: usize, letter: u8, a: u16, b: u16, n: u16)
-    requires { (a ≤ 9999) × ((b ≤ 9999) × ((n ≤ 9999) × (at + 14 ≤ length bytes.old))) }
-    ensures { bytes.new ≡ take at bytes.old ++ (line letter a b n ++ drop (at + 14) bytes.old) }
+pub(crate) fn put_line(bytes: &mut [u8], at: usize, parts: Line)
+    requires { at + 14 ≤ length bytes.old }
+    ensures { bytes.new ≡ spliced at (line parts.letter parts.a parts.b parts.n) bytes.old }
 {
-    bytes[at..at + LINE_BYTES].copy_from_slice(&line_of(letter, a, b, n));
+    bytes[at..at + LINE_BYTES].copy_from_slice(&line_of(parts));
 }
 
 /// Writes a line for each place of the table that holds 1, from `at` on, and answers where they end.
@@ -26,8 +27,14 @@ pub(crate) fn put_names(bytes: &mut [u8], at: usize, letter: u8, table: &[u8]) -
     let mut end = at;
     for (k, byte) in table.iter().enumerate() {
         if *byte == 1 {
-            // a cast, since `try_from` would add an error that cannot come
-            put_line(bytes, end, letter, k as u16, 0, 0);
+            let name = Line {
+                letter,
+                // a cast, since `try_from` would add an error that cannot come
+                a: k as u16,
+                b: 0,
+                n: 0,
+            };
+            put_line(bytes, end, name);
             end += LINE_BYTES;
         }
     }
@@ -35,10 +42,10 @@ pub(crate) fn put_names(bytes: &mut [u8], at: usize, letter: u8, table: &[u8]) -
 }
 
 // The bytes of a line, put together as `lines` takes them apart.
-fn line_of(letter: u8, a: u16, b: u16, n: u16) -> [u8; LINE_BYTES]
-    requires { (a ≤ 9999) × ((b ≤ 9999) × (n ≤ 9999)) }
-    ensures { result ≡ line letter a b n }
+fn line_of(parts: Line) -> [u8; LINE_BYTES]
+    ensures { result ≡ line parts.letter parts.a parts.b parts.n }
 {
+    let Line { letter, a, b, n } = parts;
     let [a0, a1, a2, a3] = group_of(a);
     let [b0, b1, b2, b3] = group_of(b);
     let [n0, n1, n2, n3] = group_of(n);

@@ -6,6 +6,7 @@ ghost use Rattle.schema.specs.Reports.{notice_line, Reported};
 
 use crate::faults::{Notice, ReportFault};
 use crate::limits::{LINE_BYTES, MOST_ARROWS, MOST_CLASSES};
+use crate::lines::Line;
 use crate::printing::{put_line, put_names};
 use crate::sheet::Sheet;
 use crate::tally::count_ones;
@@ -53,7 +54,13 @@ fn refuse(bytes: &mut [u8], notice: Notice) -> usize
     requires { (Printable notice) × (14 ≤ length bytes.old) }
     ensures { Begun (notice_line notice) bytes.old result bytes.new }
 {
-    put_line(bytes, 0, b'!', notice.number, notice.first, notice.second);
+    let parts = Line {
+        letter: b'!',
+        a: notice.number,
+        b: notice.first,
+        n: notice.second,
+    };
+    put_line(bytes, 0, parts);
     LINE_BYTES
 }
 
@@ -65,7 +72,13 @@ fn list(bytes: &mut [u8], classes: &[u8], arrows: &[u8]) -> usize
     // casts, since `try_from` would add an error that cannot come
     let class_count = count_ones(classes) as u16;
     let arrow_count = count_ones(arrows) as u16;
-    put_line(bytes, 0, b'V', class_count, arrow_count, 0);
+    let counts = Line {
+        letter: b'V',
+        a: class_count,
+        b: arrow_count,
+        n: 0,
+    };
+    put_line(bytes, 0, counts);
     let end = put_names(bytes, LINE_BYTES, b'C', classes);
     put_names(bytes, end, b'A', arrows)
 }

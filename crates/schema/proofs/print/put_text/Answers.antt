@@ -10,14 +10,14 @@ use Rattle.schema.proofs.RowLines.{lines_more, text_begun}
 use Rattle.schema.proofs.Uniques.{sound_few}
 use Rattle.schema.proofs.print.put_text.Goals as goal
 
-pub put_line-requires-in-loop-k : goal.put_line-requires-in-loop-k
-put_line-requires-in-loop-k c =
+pub invariant_of-parts : goal.invariant_of-parts
+invariant_of-parts c =
     let sheet = c.args.sheet.now in
     let rows = c.rows-rows.result.now in
     let k = c.loop-k.k in
     let few = sound_few sheet.classes sheet.arrows (get_or rows k blank_row) sheet.small.few_classes sheet.small.few_arrows
     (sheet.sound (get_or rows k blank_row) (subst (λ (rs : List Row). get_or rows k blank_row ∈ rs) c.rows-rows.ensures.same (Contains-get_or rows k blank_row c.loop-k-test.true))) in
-    (omega (arith, few.a_few), (omega (arith, few.b_few), (omega (arith, few.n_few), omega (arith, c.loop-k.auto.bytes, c.requires, ap length c.rows-rows.ensures.same))))
+    record { fits = (omega (arith, few.a_few), omega (arith, few.b_few), omega (arith, few.n_few)) }
 
 pub loop-k-preserved : goal.loop-k-preserved
 loop-k-preserved c =

@@ -5,4 +5,4 @@ use Rattle.schema.proofs.printing.put_line.Goals as goal
 
 pub returns : goal.returns
 returns c =
-    part_spliced c.args.at _ c.args.bytes.now _ (line c.args.letter c.args.a c.args.b c.args.n) (c.copy_from_slice.ensures.after ∙ c.line_of.ensures) (omega arith)
+    part_spliced c.args.at _ c.args.bytes.now _ (line c.args.parts.letter c.args.parts.a c.args.parts.b c.args.parts.n) (c.copy_from_slice.ensures.after ∙ c.line_of.ensures) (omega arith)
