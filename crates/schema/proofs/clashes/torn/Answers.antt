@@ -6,7 +6,7 @@ use Rattle.schema.specs.Rows.{Sound}
 use Rattle.schema.specs.Keys.{BothMarked}
 use Rattle.schema.specs.Columns.{blank_row}
 use Rattle.schema.proofs.Anys.{tells_any}
-use Rattle.schema.proofs.Members.{∈_at}
+use Rattle.std.proofs.lemmas.List.Elements.{Contains-get_or}
 use Rattle.schema.proofs.Signs.{tells_same}
 use Rattle.schema.proofs.clashes.torn.Goals as goal
 
@@ -23,4 +23,4 @@ pub any-requires-clause-callable : goal.any-requires-clause-callable
 any-requires-clause-callable g c =
     let rows = c.rows.result.now in
     serves_from_places (YieldsList-from_slice rows (search rules)) (λ x q r. search rules)
-    (λ x k l e. let s : Sound 64 32 x.now = subst (Sound 64 32) (sym e) (c.rows.ensures.sound _ (∈_at rows k x.now l)) in search rules)
+    (λ x k l e. let s : Sound 64 32 x.now = subst (Sound 64 32) (sym e) (c.rows.ensures.sound _ (Contains-get_or rows k x.now l)) in search rules)
