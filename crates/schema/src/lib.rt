@@ -6,6 +6,7 @@ pub mod book;
 mod checks;
 mod clashes;
 mod columns;
+mod counts;
 mod descriptions;
 pub mod faults;
 mod findings;

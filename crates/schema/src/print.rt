@@ -45,7 +45,7 @@ pub fn reprint(text: &[u8], bytes: &mut [u8]) -> Result<usize, ReprintFault>
 // Writes the header and a line for each row, and answers where they end.
 fn put_text(bytes: &mut [u8], sheet: &SoundSheet) -> usize
     requires { 14 * (length sheet.now.rows.items + 1) ≤ length bytes.old }
-    ensures { Begun (text_of sheet.now.classes sheet.now.arrows sheet.now.rows.items) bytes.old result bytes.new }
+    ensures { Begun (text_of sheet.now.counts.classes sheet.now.counts.arrows sheet.now.rows.items) bytes.old result bytes.new }
 {
     let rows = sheet.rows();
     // a cast, since `try_from` would add an error that cannot come
@@ -53,8 +53,8 @@ fn put_text(bytes: &mut [u8], sheet: &SoundSheet) -> usize
         bytes,
         0,
         b'H',
-        sheet.classes,
-        sheet.arrows,
+        sheet.counts.classes,
+        sheet.counts.arrows,
         rows.len() as u16,
     );
     for (k, row) in rows.iter().enumerate() {

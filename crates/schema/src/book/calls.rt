@@ -3,8 +3,8 @@ ghost use Rattle.std.specs.Prelude.{◌≡◌, [], IfOk};
 ghost use Rattle.schema.specs.Books.{Amended, SetUp, book_bounded, book_shows, unset};
 
 use super::Book;
+use crate::counts::Counts;
 use crate::faults::{AmendFault, EnterFault, SetUpFault};
-use crate::limits::{MOST_ARROWS, MOST_CLASSES};
 use crate::row::Row;
 use crate::sheet::Sheet;
 use crate::table::Table;
@@ -20,8 +20,7 @@ impl Book {
     {
         let rows = Vec::with_capacity(heap, BOOK_ROWS)?;
         Ok(Book {
-            classes: 0,
-            arrows: 0,
+            counts: Counts::NONE,
             table: Table { rows },
         })
     }
@@ -30,12 +29,8 @@ impl Book {
     pub fn set_up(&mut self, classes: u16, arrows: u16) -> Result<(), SetUpFault>
         ensures { SetUp (book_shows self.old) classes arrows result (book_shows self.new) }
     {
-        if classes > MOST_CLASSES || arrows > MOST_ARROWS {
-            return Err(SetUpFault::TooMany);
-        }
+        self.counts = Counts::within(classes, arrows).ok_or(SetUpFault::TooMany)?;
         self.table.rows.clear();
-        self.classes = classes;
-        self.arrows = arrows;
         Ok(())
     }
 
@@ -55,11 +50,11 @@ impl Sheet for Book {
     ghost bounded = { book_bounded };
 
     fn classes(&self) -> u16 {
-        self.classes
+        self.counts.classes
     }
 
     fn arrows(&self) -> u16 {
-        self.arrows
+        self.counts.arrows
     }
 
     fn capacity(&self) -> usize {
