@@ -12,6 +12,7 @@ pub type Strike<S> = Layered<StruckRows, S>;
 #[derive(Drop)]
 pub struct StruckRows {
     struck: Vec<usize>,
+    // as in `Book`: one type for this and the other two would repeat eight calls of `Vec`, to save this line in each
     ghost room: { (vec_len struck ≤ 32) × (32 ≤ vec_capacity struck) },
     ghost rising: { rises struck.items ≡ true },
 }

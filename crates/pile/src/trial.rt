@@ -12,6 +12,7 @@ pub type Trial<S> = Layered<OwnRows, S>;
 #[derive(Drop)]
 pub struct OwnRows {
     own: Vec<Row>,
+    // as in `Book`: one type for this and the other two would repeat eight calls of `Vec`, to save this line in each
     ghost room: { (vec_len own ≤ 32) × (32 ≤ vec_capacity own) },
 }
 

@@ -10,6 +10,7 @@ use crate::table::Table;
 pub struct Book {
     counts: Counts,
     table: Table,
+    // as in pile's layers: one type for the three would repeat eight calls of `Vec`, to save this line in each
     ghost room: { (vec_len table.rows ≤ 384) × (384 ≤ vec_capacity table.rows) },
 }
 
