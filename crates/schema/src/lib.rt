@@ -22,6 +22,7 @@ pub mod question;
 #[cfg(test)]
 mod question_tests;
 pub mod report;
+pub mod reserved;
 mod rivals;
 #[cfg(test)]
 mod round_trips;
@@ -30,7 +31,6 @@ mod schema;
 mod set64;
 pub mod sheet;
 mod sound_sheet;
-mod table;
 mod tally;
 #[cfg(test)]
 mod tests;

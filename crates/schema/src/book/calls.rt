@@ -5,9 +5,9 @@ ghost use Rattle.schema.specs.Books.{Amended, SetUp, book_bounded, book_shows, u
 use super::Book;
 use crate::counts::Counts;
 use crate::faults::{AmendFault, EnterFault, SetUpFault};
+use crate::reserved::Reserved;
 use crate::row::Row;
 use crate::sheet::Sheet;
-use crate::table::Table;
 use std::alloc::{AllocError, Global};
 
 /// The capacity of every book.
@@ -18,10 +18,10 @@ impl Book {
     pub fn new(heap: Global) -> Result<Book, AllocError>
         ensures { IfOk result (λ b. book_shows b ≡ unset) }
     {
-        let rows = Vec::with_capacity(heap, BOOK_ROWS)?;
+        let rows = Reserved::new(heap)?;
         Ok(Book {
             counts: Counts::NONE,
-            table: Table { rows },
+            rows,
         })
     }
 
@@ -30,7 +30,7 @@ impl Book {
         ensures { SetUp (book_shows self.old) classes arrows result (book_shows self.new) }
     {
         self.counts = Counts::within(classes, arrows).ok_or(SetUpFault::TooMany)?;
-        self.table.rows.clear();
+        self.rows.clear();
         Ok(())
     }
 
@@ -38,7 +38,7 @@ impl Book {
     pub fn amend(&mut self, k: usize, row: Row) -> Result<(), AmendFault>
         ensures { Amended (book_shows self.old) k row result (book_shows self.new) }
     {
-        let old = self.table.row_mut(k).ok_or(AmendFault::NoRow)?;
+        let old = self.rows.get_mut(k).ok_or(AmendFault::NoRow)?;
         *old = row;
         Ok(())
     }
@@ -62,18 +62,14 @@ impl Sheet for Book {
     }
 
     fn len(&self) -> usize {
-        self.table.rows.len()
+        self.rows.len()
     }
 
     fn row(&self, k: usize) -> Option<Row> {
-        self.table.rows.get(k).copied()
+        self.rows.as_slice().get(k).copied()
     }
 
     fn enter(&mut self, row: Row) -> Result<(), EnterFault> {
-        if self.table.rows.len() >= BOOK_ROWS {
-            return Err(EnterFault::Full);
-        }
-        self.table.rows.push_reserved(row);
-        Ok(())
+        self.rows.push(row).map_err(|_| EnterFault::Full)
     }
 }
