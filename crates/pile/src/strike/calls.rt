@@ -71,11 +71,8 @@ impl Layer for StruckRows {
 
     fn len<S: Sheet>(&self, below: &S) -> usize {
         let below = below.len();
-        below
-            - self
-                .struck
-                .as_slice()
-                .partition_point(|number| *number < below)
+        let struck = self.struck.as_slice();
+        below - struck.partition_point(|number| *number < below)
     }
 
     fn row<S: Sheet>(&self, below: &S, k: usize) -> Option<Row> {

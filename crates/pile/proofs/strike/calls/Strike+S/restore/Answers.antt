@@ -7,7 +7,7 @@ use Rattle.pile.proofs.Rising.{sought, missed, rises_drops}
 use Rattle.pile.proofs.strike.calls.Strike+S.restore.Goals as goal
 
 -- what is left where there is an item to take out
-left : (r : Option ℕ) (old new : Reserved ℕ 32) (at : ℕ) → at < length old.list.items
+left : {n : ℕ} (r : Option ℕ) (old new : Reserved ℕ n) (at : ℕ) → at < length old.list.items
     → MatchOption r ((length old.list.items ≤ at) × (new ≡ old)) (λ x. (at < length old.list.items) × (new.list.items ≡ remove old.list.items at))
     → new.list.items ≡ remove old.list.items at
 left None old new at l h = absurd (let z : ⊥ = omega (arith, h.0) in z)

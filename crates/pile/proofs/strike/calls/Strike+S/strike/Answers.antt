@@ -6,12 +6,16 @@ use Rattle.pile.specs.Strikes.{struck_rows}
 use Rattle.pile.proofs.Rising.{sought, missed, rises_adds}
 use Rattle.pile.proofs.strike.calls.Strike+S.strike.Goals as goal
 
+-- the same list has the same items
+same : {n : ℕ} {v w : Reserved ℕ n} → v ≡ w → v.list.items ≡ w.list.items
+same e = ap (λ v. v.list.items) e
+
 -- the numbers rise, whether one more was put in or not
-rise : (r : Result Unit ℕ) (old new : Reserved ℕ 32) (at k : ℕ) → rises old.list.items ≡ true → rises (insert old.list.items at k) ≡ true
-    → MatchResult r (λ _. (at ≤ length old.list.items) × (length old.list.items < 32) × (new.list.items ≡ insert old.list.items at k))
-    (λ y. ((length old.list.items < at) ⊎ (32 ≤ length old.list.items)) × (y ≡ k) × (new ≡ old)) → rises new.list.items ≡ true
+rise : {n : ℕ} (r : Result Unit ℕ) (old new : Reserved ℕ n) (at k : ℕ) → rises old.list.items ≡ true → rises (insert old.list.items at k) ≡ true
+    → MatchResult r (λ _. (at ≤ length old.list.items) × (length old.list.items < n) × (new.list.items ≡ insert old.list.items at k))
+    (λ y. ((length old.list.items < at) ⊎ (n ≤ length old.list.items)) × (y ≡ k) × (new ≡ old)) → rises new.list.items ≡ true
 rise (Ok u) old new at k before after h = ap rises h.2 ∙ after
-rise (Err y) old new at k before after h = ap (λ (v : Reserved ℕ 32). rises v.list.items) h.2 ∙ before
+rise (Err y) old new at k before after h = ap rises (same h.2) ∙ before
 
 pub returns-in_default-clause-struck : goal.returns-in_default-clause-struck
 returns-in_default-clause-struck g c =
@@ -29,7 +33,7 @@ returns-in_default-insert-clause-struck g c =
     let xs = struck_rows c.args.self.now in
     let gone = missed c.args.k c.in-Err.at xs _ c.args.self.now.layer.rising c.as_slice.ensures c.in-Err.ensures.position in
     let full = c.in_default-insert.ensures in
-    (omega arith, gone.1, ⊎_elim (λ h. omega (arith, h, c.in-Err.ensures.bound, ap length c.as_slice.ensures)) (λ h. h) full.0, ap (λ (v : Reserved ℕ 32). v.list.items) full.2)
+    (omega arith, gone.1, ⊎_elim (λ h. omega (arith, h, c.in-Err.ensures.bound, ap length c.as_slice.ensures)) (λ h. h) full.0, same full.2)
 
 pub returns-clause-struck : goal.returns-clause-struck
 returns-clause-struck g c =
