@@ -29,7 +29,7 @@ strike_shows s struck = record {
 }
 
 abbrev pub struck_rows : {S : Type 0} → Layered StruckRows S → List ℕ
-struck_rows t = vec_items t.layer.struck
+struck_rows t = vec_items t.layer.struck.list
 
 -- striking row k of a sheet that shows s
 abbrev pub Struck : Shown → List ℕ → ℕ → Result Unit StrikeFault → List ℕ → Type 0

@@ -18,18 +18,18 @@ trial_shows s own = record {
 }
 
 abbrev pub own_rows : {S : Type 0} → Layered OwnRows S → List Row
-own_rows t = vec_items t.layer.own
+own_rows t = vec_items t.layer.own.list
 
 -- how many rows are shown
 pub shown_length : (n : ℕ) (rows own : List Row) → length (take n (rows ++ own)) ≡ min n (length rows + length own)
 shown_length n rows own = length-take n (rows ++ own) ∙ ap (min n) (length-append rows own)
 
 -- a trial layer keeps the laws of every sheet
-pub trial_bounded : (t : OwnRows) (s : Shown) → Bounded s → Bounded (trial_shows s (vec_items t.own))
+pub trial_bounded : (t : OwnRows) (s : Shown) → Bounded s → Bounded (trial_shows s (vec_items t.own.list))
 trial_bounded t s b =
     record {
       few_classes = b.few_classes;
       few_arrows = b.few_arrows;
-      few_rows = omega (arith, shown_length 65535 s.rows (vec_items t.own), t.room, t.own.ok.0);
+      few_rows = omega (arith, shown_length 65535 s.rows (vec_items t.own.list), t.own.room, t.own.list.ok.0);
       few_places = omega arith;
     }

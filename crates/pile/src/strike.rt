@@ -1,19 +1,19 @@
 //! A strike layer: the rows of the sheet below whose numbers are not struck.
-ghost use Rattle.std.specs.Prelude.{◌≡◌, ◌≤◌, true, vec_len, vec_capacity};
+ghost use Rattle.std.specs.Prelude.{◌≡◌, true};
 ghost use Rattle.pile.specs.Standing.{rises};
 
 use crate::layered::Layered;
+use crate::limits::MOST_STRUCK;
+use schema::reserved::Reserved;
 
 /// A sheet, and a layer that hides some of its rows.
 pub type Strike<S> = Layered<StruckRows, S>;
 
-/// The numbers of the rows that are struck, in rising order. The memory for all of them is reserved when the layer is
-/// made, so that no later call can fail for want of it.
+/// The numbers of the rows that are struck, in rising order.
 #[derive(Drop)]
 pub struct StruckRows {
-    struck: Vec<usize>,
-    ghost room: { (vec_len struck ≤ 32) × (32 ≤ vec_capacity struck) },
-    ghost rising: { rises struck.items ≡ true },
+    struck: Reserved<usize, MOST_STRUCK>,
+    ghost rising: { rises struck.list.items ≡ true },
 }
 
 pub mod calls;

@@ -1,5 +1,5 @@
 -- The report on a sheet, from its verdict and from what is written of it.
-use Rattle.std.proofs.Common.{◌≡◌, ℕ, ◌+◌, ◌<◌, ◌≤◌, List, length, get_or, Err, sym, subst, zero-add, arith}
+use Rattle.std.proofs.Common.{◌≡◌, ℕ, ◌+◌, ◌<◌, ◌≤◌, List, length, get_or, Err, take, sym, subst, arith, length-take-le, get_or-take}
 use Rattle.std.specs.List.{between}
 use Rattle.std.proofs.lemmas.List.Edits.{length-between, get_or-between}
 use Rattle.schema.specs.declared.faults.Notice.{Notice}
@@ -39,22 +39,21 @@ part_list from n Fact table room bits =
 
 -- the same of a part that the table begins with
 front_list : (n : ℕ) (Fact : ℕ → Type 0) (table : List ℕ) → n ≤ length table → ((k : ℕ) → k < n → Bit (get_or table k 0) (Fact k))
-    → Lists (λ k. (k < n) × Fact k) (ones_from 0 (between 0 n table))
+    → Lists (λ k. (k < n) × Fact k) (ones_from 0 (take n table))
 front_list n Fact table room bits =
-    rw zero-add at (part_list 0 n Fact table (omega arith)
-    (λ k h. let z : k ≡ 0 + k = omega arith in subst (λ i. Bit (get_or table i 0) (Fact k)) z (bits k h)))
+    bits_list n Fact (take n table) (length-take-le n table room) (λ k h. subst (λ b. Bit b (Fact k)) (sym (get_or-take n table k 0 h)) (bits k h))
 
 -- a verdict with its classes and arrows written
-pub judged_listed : (s : Shown) (table marked : List ℕ) (ones c p : ℕ) {before after : List ℕ} {len : ℕ} → s.classes + s.arrows ≤ length marked
-    → Listed s.classes s.arrows s.rows table ones marked → c ≡ s.classes → p ≡ s.arrows
-    → Begun (listing (ones_from 0 (between 0 c marked)) (ones_from 0 (between c (c + p) marked))) before len after → SheetReported s before len after
-judged_listed s table marked ones c p room v is_c is-p b =
+pub judged_listed : (s : Shown) (table marked : List ℕ) (ones : ℕ) {before after : List ℕ} {len : ℕ} → s.classes + s.arrows ≤ length marked
+    → Listed s.classes s.arrows s.rows table ones marked
+    → Begun (listing (ones_from 0 (take s.classes marked)) (ones_from 0 (between s.classes (s.classes + s.arrows) marked))) before len after → SheetReported s before len after
+judged_listed s table marked ones room v b =
     let few : s.classes ≤ length marked = omega arith in
     let classes = front_list s.classes (EmptyClass s.rows) marked few v.class_bytes in
     let arrows = part_list s.classes s.arrows (EmptyArrow s.rows) marked room v.arrow_bytes in
     let no-class = front_list s.classes (λ k. Follows s.rows (λ w. ClassEmpty w k)) marked few v.class_everywhere in
     let no-arrow = part_list s.classes s.arrows (λ k. Follows s.rows (λ w. ArrowEmpty w k)) marked room v.arrow_everywhere in
-    record { report = _; is = sheet_listed _ _ v.passes classes arrows no-class no-arrow; begun = rw (is_c, is-p) at b }
+    record { report = _; is = sheet_listed _ _ v.passes classes arrows no-class no-arrow; begun = b }
 
 -- the report on the sheet of an accepted text is the report on the text
 pub text_report : {text report : List ℕ} (s : Shown) → IsText text s.classes s.arrows s.rows → SheetReport s report → ReportIs text report

@@ -81,6 +81,6 @@ text_from text c p rows h read =
     }
 
 -- what a sheet that was read shows
-pub read_from : (text : List ℕ) (c p n : ℕ) (rows : List Row) → Headed text c p n → (length rows ≡ n) × RowsRead text c p rows
+pub read_from : (text : List ℕ) (c p : ℕ) (rows : List Row) → Headed text c p (length rows) × RowsRead text c p rows
     → TextRead text (record { classes = c; arrows = p; rows = rows; capacity = length rows })
-read_from text c p n rows h (e, read) = record { tells = text_from text c p rows (rw e h) read; full = refl }
+read_from text c p rows (h, read) = record { tells = text_from text c p rows h read; full = refl }

@@ -14,7 +14,7 @@ use Rattle.schema.specs.declared.row.Row.{Row}
 use Rattle.schema.specs.Sheets.{Shown, Bounded, with_rows}
 
 abbrev pub book_shows : Book → Shown
-book_shows b = record { classes = b.classes; arrows = b.arrows; rows = vec_items b.table.rows; capacity = 384 }
+book_shows b = record { classes = b.counts.classes; arrows = b.counts.arrows; rows = vec_items b.rows.list; capacity = 384 }
 
 abbrev pub unset : Shown
 unset = record { classes = 0; arrows = 0; rows = []; capacity = 384 }
@@ -32,4 +32,4 @@ Amended s k row (Err NoRow) t = (length s.rows ≤ k) × (t ≡ s)
 -- a book keeps the laws of every sheet
 pub book_bounded : (b : Book) → Bounded (book_shows b)
 book_bounded b =
-    record { few_classes = omega (arith, b.few); few_arrows = omega (arith, b.few); few_rows = omega (arith, b.room, b.table.rows.ok.0); few_places = omega arith }
+    record { few_classes = omega (arith, b.counts.few); few_arrows = omega (arith, b.counts.few); few_rows = omega (arith, b.rows.room, b.rows.list.ok.0); few_places = omega arith }

@@ -11,7 +11,7 @@ use Rattle.schema.specs.Sheets.{Shown, Bounded}
 use Rattle.schema.specs.Texts.{IsText, TextFaulty}
 
 abbrev pub text_shows : TextSheet → Shown
-text_shows t = record { classes = t.classes; arrows = t.arrows; rows = t.rows.items; capacity = array_vec_len t.rows }
+text_shows t = record { classes = t.counts.classes; arrows = t.counts.arrows; rows = t.rows.items; capacity = array_vec_len t.rows }
 
 pub record TextRead (text : List ℕ) (s : Shown) : Type 0 where
   pub tells : IsText text s.classes s.arrows s.rows
@@ -24,8 +24,8 @@ pub data TextShown (text : List ℕ) : Shown → Type 0 where
 -- such a sheet keeps the laws of every sheet
 pub text_bounded : (t : TextSheet) → Bounded (text_shows t)
 text_bounded t = record {
-  few_classes = omega (arith, t.few);
-  few_arrows = omega (arith, t.few);
+  few_classes = omega (arith, t.counts.few);
+  few_arrows = omega (arith, t.counts.few);
   few_rows = omega (arith, t.room);
   few_places = omega (arith, t.room);
 }

@@ -1,17 +1,14 @@
 //! A book: a sheet of up to 384 rows, held in memory.
-ghost use Rattle.std.specs.Prelude.{◌≤◌, vec_len, vec_capacity};
+use self::calls::BOOK_ROWS;
+use crate::counts::Counts;
+use crate::reserved::Reserved;
+use crate::row::Row;
 
-use crate::table::Table;
-
-/// Two counts and up to 384 rows. The memory for all of them is reserved when the book is made, so that no later call
-/// can fail for want of it.
+/// Two counts and up to 384 rows.
 #[derive(Drop)]
 pub struct Book {
-    classes: u16,
-    arrows: u16,
-    table: Table,
-    ghost few: { (classes ≤ 64) × (arrows ≤ 32) },
-    ghost room: { (vec_len table.rows ≤ 384) × (384 ≤ vec_capacity table.rows) },
+    counts: Counts,
+    rows: Reserved<Row, BOOK_ROWS>,
 }
 
 pub mod calls;

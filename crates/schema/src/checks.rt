@@ -1,22 +1,23 @@
 //! The checks that the rows of a sheet pass before they are judged.
-ghost use Rattle.std.specs.Prelude.{MatchResult};
+ghost use Rattle.std.specs.Prelude.{◌≤◌, length, MatchResult};
 ghost use Rattle.schema.specs.Rows.{AllSound};
-ghost use Rattle.schema.specs.Verdicts.{Small, NoSharedCap, SheetFaulty, CheckFaulty};
+ghost use Rattle.schema.specs.Verdicts.{NoSharedCap, SheetFaulty, CheckFaulty};
 ghost use Rattle.schema.specs.Checks.{Shared};
 
+use crate::counts::Counts;
 use crate::faults::{CheckFault, SheetFault};
 use crate::letters::unsound_field;
 use crate::row::Row;
 use crate::set64::Set64;
 use crate::sound_sheet::SoundSheet;
 
-/// Checks that each of some rows, which are within the limits, is sound.
-pub(crate) fn check_sound(rows: &[Row], classes: u16, arrows: u16) -> Result<(), SheetFault>
-    requires { Small classes arrows rows.now }
-    ensures { MatchResult result (λ _. AllSound classes arrows rows.now) (λ f. SheetFaulty classes arrows rows.now f) }
+/// Checks that each of some rows, which are within the limit, is sound.
+pub(crate) fn check_sound(rows: &[Row], counts: Counts) -> Result<(), SheetFault>
+    requires { length rows.now ≤ 512 }
+    ensures { MatchResult result (λ _. AllSound counts.classes counts.arrows rows.now) (λ f. SheetFaulty counts.classes counts.arrows rows.now f) }
 {
     for (k, row) in rows.iter().enumerate() {
-        if let Some(field) = unsound_field(*row, classes, arrows) {
+        if let Some(field) = unsound_field(*row, counts.classes, counts.arrows) {
             // a cast, since `try_from` would add an error that cannot come
             return Err(SheetFault::UnsoundRow {
                 row: k as u16,
@@ -29,13 +30,14 @@ pub(crate) fn check_sound(rows: &[Row], classes: u16, arrows: u16) -> Result<(),
 
 /// Checks that no cap of a sound sheet stands on an arrow that another leads to.
 pub(crate) fn check_caps(sheet: &SoundSheet) -> Result<(), CheckFault>
-    ensures { MatchResult result (λ _. NoSharedCap sheet.now.rows.items) (λ f. CheckFaulty sheet.now.classes sheet.now.arrows sheet.now.rows.items f) }
+    ensures { MatchResult result (λ _. NoSharedCap sheet.now.rows.items) (λ f. CheckFaulty sheet.now.counts.classes sheet.now.counts.arrows sheet.now.rows.items f) }
 {
     let shared = shared_arrows(sheet);
     let rows = sheet.rows();
     for (k, row) in rows.iter().enumerate() {
-        // the letter is a byte and k a `usize`, as `Row` and the list have them
+        // a byte, as `Row` has it
         if row.letter == b'K' && shared.has(usize::from(row.b) / 2) {
+            // a cast, since `try_from` would add an error that cannot come
             return Err(CheckFault::Capped { row: k as u16 });
         }
     }

@@ -86,6 +86,7 @@ pub fn shape_of(letter: u8) -> Option<Shape>
 pub fn unsound_field(row: Row, classes: u16, arrows: u16) -> Option<u16>
     ensures { MatchOption result (Sound classes arrows row) (λ k. Unsound classes arrows row k) }
 {
+    // a field by its number, as the format counts them and a notice prints it
     let Some(shape) = shape_of(row.letter) else {
         return Some(1);
     };
@@ -101,7 +102,8 @@ pub fn unsound_field(row: Row, classes: u16, arrows: u16) -> Option<u16>
     None
 }
 
-// How many there are of a kind: an arrow has two ends.
+// How many there are of a kind: an arrow has two ends. Two numbers and not `Counts`, since a row may be asked about under
+// any counts.
 fn bound(kind: Kind, classes: u16, arrows: u16) -> u32
     ensures { result ≡ limit classes arrows kind }
 {

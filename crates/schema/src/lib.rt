@@ -6,6 +6,7 @@ pub mod book;
 mod checks;
 mod clashes;
 mod columns;
+mod counts;
 mod description;
 mod descriptions;
 pub mod faults;
@@ -22,6 +23,7 @@ pub mod question;
 #[cfg(test)]
 mod question_tests;
 pub mod report;
+pub mod reserved;
 mod rivals;
 #[cfg(test)]
 mod round_trips;
@@ -30,7 +32,6 @@ mod schema;
 mod set64;
 pub mod sheet;
 mod sound_sheet;
-mod table;
 mod tally;
 #[cfg(test)]
 mod tests;

@@ -7,6 +7,7 @@ ghost use Rattle.schema.specs.Columns.{head_line, LineStrays, LineFaulty};
 ghost use Rattle.schema.specs.declared.faults.LineFault.TheVariants.{Form};
 
 use crate::columns::{Stray, read_group};
+use crate::counts::Counts;
 use crate::faults::{ColumnFault, LineFault};
 use crate::letters::unsound_field;
 use crate::row::Row;
@@ -53,14 +54,14 @@ pub(crate) fn header_line(bytes: &[u8]) -> Result<Header, LineFault>
     })
 }
 
-/// The line of a row, which is in form and sound for the counts of the header.
-pub(crate) fn row_line(bytes: &[u8], number: u16, header: Header) -> Result<Row, LineFault>
+/// The line of a row, which is in form and sound for the counts of line 1.
+pub(crate) fn row_line(bytes: &[u8], number: u16, counts: Counts) -> Result<Row, LineFault>
     requires { length bytes.now ≡ 14 }
-    ensures { MatchResult result (λ row. (bytes.now ≡ row_line row) × Sound header.classes header.arrows row) (λ e. LineFaulty bytes.now number header.classes header.arrows e) }
+    ensures { MatchResult result (λ row. (bytes.now ≡ row_line row) × Sound counts.classes counts.arrows row) (λ e. LineFaulty bytes.now number counts.classes counts.arrows e) }
 {
     let Line { letter, a, b, n } = read_line(bytes, number, begins_row)?;
     let row = Row { letter, a, b, n };
-    match unsound_field(row, header.classes, header.arrows) {
+    match unsound_field(row, counts.classes, counts.arrows) {
         Some(field) => Err(LineFault::UnsoundLine {
             line: number,
             field,

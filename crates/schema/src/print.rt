@@ -47,13 +47,13 @@ pub fn reprint(text: &[u8], bytes: &mut [u8]) -> Result<usize, ReprintFault>
 // Writes the header and a line for each row, and answers where they end.
 fn put_text(bytes: &mut [u8], sheet: &SoundSheet) -> usize
     requires { 14 * (length sheet.now.rows.items + 1) ≤ length bytes.old }
-    ensures { Begun (text_of sheet.now.classes sheet.now.arrows sheet.now.rows.items) bytes.old result bytes.new }
+    ensures { Begun (text_of sheet.now.counts.classes sheet.now.counts.arrows sheet.now.rows.items) bytes.old result bytes.new }
 {
     let rows = sheet.rows();
     let header = Line {
         letter: b'H',
-        a: sheet.classes,
-        b: sheet.arrows,
+        a: sheet.counts.classes,
+        b: sheet.counts.arrows,
         // a cast, since `try_from` would add an error that cannot come
         n: rows.len() as u16,
     };

@@ -23,9 +23,10 @@ pub fn question<S: Sheet>(sheet: &S, asked: Row) -> Result<bool, QuestionFault>
 
 // The question about a schema.
 fn ask(schema: &Schema, asked: Row) -> Result<bool, QuestionFault>
-    ensures { Replied schema.now.sheet.classes schema.now.sheet.arrows schema.now.sheet.rows.items asked result }
+    ensures { Replied schema.now.sheet.counts.classes schema.now.sheet.counts.arrows schema.now.sheet.rows.items asked result }
 {
-    if let Some(field) = unsound_field(asked, schema.sheet.classes, schema.sheet.arrows) {
+    let counts = schema.sheet.counts;
+    if let Some(field) = unsound_field(asked, counts.classes, counts.arrows) {
         return Err(QuestionFault::UnsoundAsked { field });
     }
     if uncountable(schema, asked) {

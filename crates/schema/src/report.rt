@@ -1,14 +1,16 @@
 //! The report on a text.
-ghost use Rattle.std.specs.Prelude.{◌≡◌, ◌≤◌, length};
+ghost use Rattle.std.specs.Prelude.{◌≡◌, ◌+◌, ◌≤◌, length, take};
+ghost use Rattle.std.specs.List.{between};
 ghost use Rattle.schema.specs.Printing.{ones_from, listing, Printable, Begun};
 ghost use Rattle.schema.specs.Judgements.{SheetReported};
 ghost use Rattle.schema.specs.Reports.{notice_line, Reported};
+ghost use Rattle.schema.specs.TextSheets.{text_shows};
 
+use crate::counts::Counts;
 use crate::faults::{Notice, ReportFault};
 use crate::limits::{LINE_BYTES, MOST_ARROWS, MOST_CLASSES};
 use crate::lines::Line;
 use crate::printing::{put_line, put_names};
-use crate::sheet::Sheet;
 use crate::tally::count_ones;
 use crate::text_sheet::TextSheet;
 use crate::verdict::verdict;
@@ -36,15 +38,13 @@ pub fn report(text: &[u8], bytes: &mut [u8]) -> Result<usize, ReportFault>
 }
 
 // Writes the verdict on a sheet: the notice of its refusal, or what it lists.
-fn judge<S: Sheet>(sheet: &S, bytes: &mut [u8]) -> usize
-    requires { ((S.Sheet.shows sheet.now).classes ≤ 64) × (((S.Sheet.shows sheet.now).arrows ≤ 32) × (1358 ≤ length bytes.old)) }
-    ensures { SheetReported (S.Sheet.shows sheet.now) bytes.old result bytes.new }
+fn judge(sheet: &TextSheet, bytes: &mut [u8]) -> usize
+    requires { 1358 ≤ length bytes.old }
+    ensures { SheetReported (text_shows sheet.now) bytes.old result bytes.new }
 {
-    let classes = usize::from(sheet.classes());
-    let arrows = usize::from(sheet.arrows());
     let mut table = [0; TABLE_BYTES];
     match verdict(sheet, &mut table) {
-        Ok(_) => list(bytes, &table[0..classes], &table[classes..classes + arrows]),
+        Ok(_) => list(bytes, sheet.counts, &table),
         Err(fault) => refuse(bytes, Notice::from(fault)),
     }
 }
@@ -64,11 +64,14 @@ fn refuse(bytes: &mut [u8], notice: Notice) -> usize
     LINE_BYTES
 }
 
-// Writes the two counts, then the places of the classes and of the arrows that hold 1.
-fn list(bytes: &mut [u8], classes: &[u8], arrows: &[u8]) -> usize
-    requires { (length classes.now ≤ 64) × ((length arrows.now ≤ 32) × (1358 ≤ length bytes.old)) }
-    ensures { Begun (listing (ones_from 0 classes.now) (ones_from 0 arrows.now)) bytes.old result bytes.new }
+// Writes how many bytes of a table are 1 for the classes and for the arrows, and then their places.
+fn list(bytes: &mut [u8], counts: Counts, table: &[u8; TABLE_BYTES]) -> usize
+    requires { 1358 ≤ length bytes.old }
+    ensures { Begun (listing (ones_from 0 (take counts.classes table.now)) (ones_from 0 (between counts.classes (counts.classes + counts.arrows) table.now))) bytes.old result bytes.new }
 {
+    let first = usize::from(counts.classes);
+    let classes = &table[..first];
+    let arrows = &table[first..counts.names()];
     // casts, since `try_from` would add an error that cannot come
     let class_count = count_ones(classes) as u16;
     let arrow_count = count_ones(arrows) as u16;

@@ -18,7 +18,7 @@ pub(crate) struct Schema {
 impl Schema {
     /// Copies a sheet, or says what is wrong with it.
     pub(crate) fn of<S: Sheet>(sheet: &S) -> Result<Schema, CheckFault>
-        ensures { let s = S.Sheet.shows sheet.now in MatchResult result (λ t. CopyOf s t.sheet.classes t.sheet.arrows t.sheet.rows.items) (λ f. CheckFaulty s.classes s.arrows s.rows f) }
+        ensures { let s = S.Sheet.shows sheet.now in MatchResult result (λ t. CopyOf s t.sheet.counts.classes t.sheet.counts.arrows t.sheet.rows.items) (λ f. CheckFaulty s.classes s.arrows s.rows f) }
     {
         let sheet = SoundSheet::of(sheet)?;
         check_caps(&sheet)?;

@@ -3,11 +3,13 @@ ghost use Rattle.std.specs.Prelude.{◌≡◌, ◌≤◌, length, MatchResult};
 ghost use Rattle.std.proofs.Props.{props};
 ghost use Rattle.schema.specs.Copies.{CopyOf, sound_prop};
 ghost use Rattle.schema.specs.Rows.{AllSound};
-ghost use Rattle.schema.specs.Verdicts.{Small, SheetFaulty};
+ghost use Rattle.schema.specs.Verdicts.{SheetFaulty};
+ghost use Rattle.arrayvec.specs.ArrayVec.{array_vec_len};
 
 use crate::checks::check_sound;
+use crate::counts::Counts;
 use crate::faults::SheetFault;
-use crate::limits::{MOST_ARROWS, MOST_CLASSES, MOST_ROWS};
+use crate::limits::MOST_ROWS;
 use crate::row::Row;
 use crate::sheet::Sheet;
 use arrayvec::ArrayVec;
@@ -15,30 +17,24 @@ use arrayvec::ArrayVec;
 /// The counts and rows of a sheet that is within the limits and sound.
 #[derive(Drop)]
 pub(crate) struct SoundSheet {
-    pub(crate) classes: u16,
-    pub(crate) arrows: u16,
+    pub(crate) counts: Counts,
     rows: ArrayVec<Row, MOST_ROWS>,
-    ghost small: { Small classes arrows rows.items },
-    ghost sound: { AllSound classes arrows rows.items } by { Prim.hlevel (props, sound_prop) },
+    ghost room: { array_vec_len rows ≤ 512 },
+    ghost sound: { AllSound counts.classes counts.arrows rows.items } by { Prim.hlevel (props, sound_prop) },
 }
 
 impl SoundSheet {
     /// Copies a sheet, or says what is wrong with it.
     pub(crate) fn of<S: Sheet>(sheet: &S) -> Result<SoundSheet, SheetFault>
-        ensures { let s = S.Sheet.shows sheet.now in MatchResult result (λ t. CopyOf s t.classes t.arrows t.rows.items) (λ f. SheetFaulty s.classes s.arrows s.rows f) }
+        ensures { let s = S.Sheet.shows sheet.now in MatchResult result (λ t. CopyOf s t.counts.classes t.counts.arrows t.rows.items) (λ f. SheetFaulty s.classes s.arrows s.rows f) }
     {
-        let classes = sheet.classes();
-        let arrows = sheet.arrows();
-        if classes > MOST_CLASSES || arrows > MOST_ARROWS || sheet.len() > MOST_ROWS {
+        let counts = Counts::within(sheet.classes(), sheet.arrows()).ok_or(SheetFault::OverLimits)?;
+        if sheet.len() > MOST_ROWS {
             return Err(SheetFault::OverLimits);
         }
         let rows = copy_rows(sheet);
-        check_sound(&rows, classes, arrows)?;
-        Ok(SoundSheet {
-            classes,
-            arrows,
-            rows,
-        })
+        check_sound(&rows, counts)?;
+        Ok(SoundSheet { counts, rows })
     }
 
     /// The rows, which are sound for the limits too.

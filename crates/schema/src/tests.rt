@@ -4,6 +4,7 @@ use crate::faults::{
 };
 use crate::letters::unsound_field;
 use crate::report::{REPORT_BYTES, report};
+use crate::reserved::Reserved;
 use crate::row::Row;
 use crate::sheet::Sheet;
 use crate::text::check_text;
@@ -76,6 +77,22 @@ fn sheets(rt: HostRuntime) {
     let empty = TextSheet::new(b"H");
     assert_eq!(rt; empty.classes(), 0);
     assert_eq!(rt; empty.row(0), None);
+}
+
+// A list has room for as many items as it says, and gives back the next.
+#[test]
+fn reserved(rt: HostRuntime) -> Result<(), Fail> {
+    let mut list: Reserved<u16, 2> = Reserved::new(rt.alloc())?;
+    assert_eq!(rt; list.push(7), Ok(()));
+    assert_eq!(rt; list.insert(2, 5), Err(5));
+    assert_eq!(rt; list.insert(0, 5), Ok(()));
+    assert_eq!(rt; list.push(9), Err(9));
+    assert_eq!(rt; list.as_slice().get(1).copied(), Some(7));
+    assert_eq!(rt; list.remove(0), Some(5));
+    assert_eq!(rt; list.remove(1), None);
+    list.clear();
+    assert_eq!(rt; list.len(), 0);
+    Ok(())
 }
 
 #[test]

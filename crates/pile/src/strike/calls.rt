@@ -8,9 +8,10 @@ ghost use Rattle.pile.specs.Strikes.{Restored, Struck, strike_bounded, struck_ro
 use super::{Strike, StruckRows};
 use crate::faults::{RestoreFault, StrikeFault};
 use crate::layer::Layer;
-use crate::limits::{MOST_SHOWN, MOST_STRUCK};
+use crate::limits::MOST_SHOWN;
 use crate::request::{Answer, Call};
 use schema::faults::EnterFault;
+use schema::reserved::Reserved;
 use schema::row::Row;
 use schema::sheet::Sheet;
 use std::alloc::{AllocError, Global};
@@ -21,7 +22,7 @@ impl<S> Strike<S> {
         ensures restored { Restored (struck_rows self.old) k result (struck_rows self.new) }
         ensures below { self.new.below ≡ self.old.below }
     {
-        let Ok(at) = self.layer.struck.binary_search(&k) else {
+        let Ok(at) = self.layer.struck.as_slice().binary_search(&k) else {
             return Err(RestoreFault::NotStruck);
         };
         self.layer.struck.remove(at);
@@ -38,30 +39,29 @@ impl<S: Sheet> Strike<S> {
         if k >= self.below.len() {
             return Err(StrikeFault::NoSuchRow);
         }
-        let Err(at) = self.layer.struck.binary_search(&k) else {
+        let Err(at) = self.layer.struck.as_slice().binary_search(&k) else {
             return Err(StrikeFault::StruckAlready);
         };
-        if self.layer.struck.len() >= MOST_STRUCK {
+        let Ok(()) = self.layer.struck.insert(at, k) else {
             return Err(StrikeFault::TooManyStruck);
-        }
-        self.layer.struck.insert(at, k).unwrap();
+        };
         Ok(())
     }
 }
 
 impl Layer for StruckRows {
-    ghost plain = { λ l. strike l.struck.items };
+    ghost plain = { λ l. strike l.struck.list.items };
 
     ghost kind = { strike_kind };
 
-    ghost is_new = { λ l. l.struck.items ≡ [] };
+    ghost is_new = { λ l. l.struck.list.items ≡ [] };
 
     ghost starts = { λ l e. ap strike e };
 
-    ghost keeps = { λ l s. strike_bounded s l.struck.items };
+    ghost keeps = { λ l s. strike_bounded s l.struck.list.items };
 
     fn fresh(heap: Global) -> Result<StruckRows, AllocError> {
-        let struck = Vec::with_capacity(heap, MOST_STRUCK)?;
+        let struck = Reserved::new(heap)?;
         Ok(StruckRows { struck })
     }
 
@@ -71,7 +71,8 @@ impl Layer for StruckRows {
 
     fn len<S: Sheet>(&self, below: &S) -> usize {
         let below = below.len();
-        below - self.struck.partition_point(|number| *number < below)
+        let struck = self.struck.as_slice();
+        below - struck.partition_point(|number| *number < below)
     }
 
     fn row<S: Sheet>(&self, below: &S, k: usize) -> Option<Row> {

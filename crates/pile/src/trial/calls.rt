@@ -9,6 +9,7 @@ use crate::layer::Layer;
 use crate::limits::{MOST_SHOWN, OWN_ROWS};
 use crate::request::{Answer, Call};
 use schema::faults::EnterFault;
+use schema::reserved::Reserved;
 use schema::row::Row;
 use schema::sheet::Sheet;
 use std::alloc::{AllocError, Global};
@@ -27,18 +28,18 @@ impl<S> Trial<S> {
 }
 
 impl Layer for OwnRows {
-    ghost plain = { λ l. trial l.own.items };
+    ghost plain = { λ l. trial l.own.list.items };
 
     ghost kind = { trial_kind };
 
-    ghost is_new = { λ l. l.own.items ≡ [] };
+    ghost is_new = { λ l. l.own.list.items ≡ [] };
 
     ghost starts = { λ l e. ap trial e };
 
     ghost keeps = { trial_bounded };
 
     fn fresh(heap: Global) -> Result<OwnRows, AllocError> {
-        let own = Vec::with_capacity(heap, OWN_ROWS)?;
+        let own = Reserved::new(heap)?;
         Ok(OwnRows { own })
     }
 
@@ -58,7 +59,7 @@ impl Layer for OwnRows {
         if k < first {
             below.row(k)
         } else {
-            self.own.get(k - first).copied()
+            self.own.as_slice().get(k - first).copied()
         }
     }
 
@@ -66,8 +67,7 @@ impl Layer for OwnRows {
         if self.len(below) >= self.capacity(below) {
             return Err(EnterFault::Full);
         }
-        self.own.push_reserved(row);
-        Ok(())
+        self.own.push(row).map_err(|_| EnterFault::Full)
     }
 
     fn own_call<S: Sheet>(layered: &mut Trial<S>, call: Call) -> Result<Answer, Call> {

@@ -3,11 +3,11 @@ ghost use Rattle.std.specs.Prelude.{◌≡◌, [], IfOk};
 ghost use Rattle.schema.specs.Books.{Amended, SetUp, book_bounded, book_shows, unset};
 
 use super::Book;
+use crate::counts::Counts;
 use crate::faults::{AmendFault, EnterFault, SetUpFault};
-use crate::limits::{MOST_ARROWS, MOST_CLASSES};
+use crate::reserved::Reserved;
 use crate::row::Row;
 use crate::sheet::Sheet;
-use crate::table::Table;
 use std::alloc::{AllocError, Global};
 
 /// The capacity of every book.
@@ -18,11 +18,10 @@ impl Book {
     pub fn new(heap: Global) -> Result<Book, AllocError>
         ensures { IfOk result (λ b. book_shows b ≡ unset) }
     {
-        let rows = Vec::with_capacity(heap, BOOK_ROWS)?;
+        let rows = Reserved::new(heap)?;
         Ok(Book {
-            classes: 0,
-            arrows: 0,
-            table: Table { rows },
+            counts: Counts::NONE,
+            rows,
         })
     }
 
@@ -30,12 +29,8 @@ impl Book {
     pub fn set_up(&mut self, classes: u16, arrows: u16) -> Result<(), SetUpFault>
         ensures { SetUp (book_shows self.old) classes arrows result (book_shows self.new) }
     {
-        if classes > MOST_CLASSES || arrows > MOST_ARROWS {
-            return Err(SetUpFault::TooMany);
-        }
-        self.table.rows.clear();
-        self.classes = classes;
-        self.arrows = arrows;
+        self.counts = Counts::within(classes, arrows).ok_or(SetUpFault::TooMany)?;
+        self.rows.clear();
         Ok(())
     }
 
@@ -43,7 +38,7 @@ impl Book {
     pub fn amend(&mut self, k: usize, row: Row) -> Result<(), AmendFault>
         ensures { Amended (book_shows self.old) k row result (book_shows self.new) }
     {
-        let old = self.table.row_mut(k).ok_or(AmendFault::NoRow)?;
+        let old = self.rows.get_mut(k).ok_or(AmendFault::NoRow)?;
         *old = row;
         Ok(())
     }
@@ -55,11 +50,11 @@ impl Sheet for Book {
     ghost bounded = { book_bounded };
 
     fn classes(&self) -> u16 {
-        self.classes
+        self.counts.classes
     }
 
     fn arrows(&self) -> u16 {
-        self.arrows
+        self.counts.arrows
     }
 
     fn capacity(&self) -> usize {
@@ -67,18 +62,14 @@ impl Sheet for Book {
     }
 
     fn len(&self) -> usize {
-        self.table.rows.len()
+        self.rows.len()
     }
 
     fn row(&self, k: usize) -> Option<Row> {
-        self.table.rows.get(k).copied()
+        self.rows.as_slice().get(k).copied()
     }
 
     fn enter(&mut self, row: Row) -> Result<(), EnterFault> {
-        if self.table.rows.len() >= BOOK_ROWS {
-            return Err(EnterFault::Full);
-        }
-        self.table.rows.push_reserved(row);
-        Ok(())
+        self.rows.push(row).map_err(|_| EnterFault::Full)
     }
 }

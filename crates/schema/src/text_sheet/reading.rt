@@ -1,14 +1,15 @@
 //! Reading a text, line by line.
-ghost use Rattle.std.specs.Prelude.{◌≡◌, MatchResult};
+ghost use Rattle.std.specs.Prelude.{◌≡◌, ℕ, MatchResult};
 ghost use Rattle.arrayvec.specs.ArrayVec.{array_vec_len};
 ghost use Rattle.schema.specs.Texts.{TextFaulty};
 ghost use Rattle.schema.specs.Columns.{Headed, RowsRead};
 ghost use Rattle.schema.specs.TextSheets.{text_shows, text_bounded, TextRead, TextShown};
 
 use super::TextSheet;
+use crate::counts::Counts;
 use crate::faults::{EnterFault, TextFault};
-use crate::limits::{LINE_BYTES, MOST_ARROWS, MOST_CLASSES, MOST_ROWS};
-use crate::lines::{Header, header_line, row_line};
+use crate::limits::{LINE_BYTES, MOST_ROWS};
+use crate::lines::{header_line, row_line};
 use crate::row::Row;
 use crate::sheet::Sheet;
 use arrayvec::ArrayVec;
@@ -18,13 +19,9 @@ impl TextSheet {
     pub fn read(text: &[u8]) -> Result<TextSheet, TextFault>
         ensures { MatchResult result (λ t. TextRead text.now (text_shows t)) (λ f. TextFaulty text.now f) }
     {
-        let header = read_header(text)?;
-        let rows = read_rows(text, header)?;
-        Ok(TextSheet {
-            classes: header.classes,
-            arrows: header.arrows,
-            rows,
-        })
+        let counts = read_header(text)?;
+        let rows = read_rows(text, counts)?;
+        Ok(TextSheet { counts, rows })
     }
 
     /// The sheet of a text, which is empty where the text is refused.
@@ -34,8 +31,7 @@ impl TextSheet {
         match TextSheet::read(text) {
             Ok(sheet) => sheet,
             Err(_) => TextSheet {
-                classes: 0,
-                arrows: 0,
+                counts: Counts::NONE,
                 rows: ArrayVec::new(),
             },
         }
@@ -55,11 +51,11 @@ impl Sheet for TextSheet {
     ghost bounded = { text_bounded };
 
     fn classes(&self) -> u16 {
-        self.classes
+        self.counts.classes
     }
 
     fn arrows(&self) -> u16 {
-        self.arrows
+        self.counts.arrows
     }
 
     fn capacity(&self) -> usize {
@@ -80,34 +76,35 @@ impl Sheet for TextSheet {
     }
 }
 
-// Line 1, once it is in form, within the limits and true of the text's length.
-fn read_header(text: &[u8]) -> Result<Header, TextFault>
-    ensures { MatchResult result (λ h. Headed text.now h.classes h.arrows h.rows) (λ f. TextFaulty text.now f) }
+// The counts of line 1, once it is in form, within the limits and true of the text's length.
+fn read_header(text: &[u8]) -> Result<Counts, TextFault>
+    ensures { MatchResult result (λ c. (n : ℕ) × Headed text.now c.classes c.arrows n) (λ f. TextFaulty text.now f) }
 {
     if text.len() < LINE_BYTES {
         return Err(TextFault::TooShort);
     }
     let header = header_line(&text[..LINE_BYTES])?;
+    let counts = Counts::within(header.classes, header.arrows).ok_or(TextFault::TooLarge)?;
     let len = usize::from(header.rows);
-    if header.classes > MOST_CLASSES || header.arrows > MOST_ARROWS || len > MOST_ROWS {
+    if len > MOST_ROWS {
         return Err(TextFault::TooLarge);
     }
     if text.len() != LINE_BYTES * (len + 1) {
         return Err(TextFault::WrongLength);
     }
-    Ok(header)
+    Ok(counts)
 }
 
 // The rows of the lines after the first.
-fn read_rows(text: &[u8], header: Header) -> Result<ArrayVec<Row, MOST_ROWS>, TextFault>
-    requires { Headed text.now header.classes header.arrows header.rows }
-    ensures { MatchResult result (λ rows. (array_vec_len rows ≡ header.rows) × RowsRead text.now header.classes header.arrows rows.items) (λ f. TextFaulty text.now f) }
+fn read_rows(text: &[u8], counts: Counts) -> Result<ArrayVec<Row, MOST_ROWS>, TextFault>
+    requires { (n : ℕ) × Headed text.now counts.classes counts.arrows n }
+    ensures { MatchResult result (λ rows. Headed text.now counts.classes counts.arrows (array_vec_len rows) × RowsRead text.now counts.classes counts.arrows rows.items) (λ f. TextFaulty text.now f) }
 {
     let mut rows = ArrayVec::new();
     for (i, line) in text[LINE_BYTES..].chunks_exact(LINE_BYTES).enumerate() {
         // a cast, since `try_from` would add an error that cannot come
         let number = (i + 2) as u16;
-        let row = row_line(line, number, header)?;
+        let row = row_line(line, number, counts)?;
         rows.push(row);
     }
     Ok(rows)

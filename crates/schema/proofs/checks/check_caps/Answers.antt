@@ -11,6 +11,7 @@ use Rattle.schema.specs.Verdicts.{CapsShared, Small, capped}
 use Rattle.schema.proofs.Building.{fits_at}
 use Rattle.schema.proofs.Caps.{caps, no_caps, no_cap_letter}
 use Rattle.schema.proofs.Members.{each_below, every_∈}
+use Rattle.schema.proofs.Schemas.{sheet_small}
 use Rattle.schema.proofs.checks.check_caps.Goals as goal
 use Rattle.schema.proofs.checks.check_caps.Goals.{else-row-eq75-via-then-row-eq75+else-has, else-row-eq75-via-else-row-eq75}
 
@@ -27,8 +28,8 @@ returns-then-has c =
     let r = get_or rows c.loop-k.k blank_row in
     let here : c.from.result / 2 ≡ arrow r.b = omega (arith, c.from.ensures) in
     let shared : Shared rows c.shared_arrows-shared.result = rw c.rows-rows.ensures.same c.shared_arrows-shared.ensures in
-    let small : Small sheet.classes sheet.arrows rows = rw c.rows-rows.ensures.same sheet.small in
-    let sound : AllSound sheet.classes sheet.arrows rows = rw c.rows-rows.ensures.same sheet.sound in
+    let small : Small sheet.counts.classes sheet.counts.arrows rows = rw c.rows-rows.ensures.same (sheet_small sheet) in
+    let sound : AllSound sheet.counts.classes sheet.counts.arrows rows = rw c.rows-rows.ensures.same sheet.sound in
     rw (← c.rows-rows.ensures.same)
     (capped c.loop-k.k r small sound (slice_get-get_or rows c.loop-k.k blank_row c.loop-k-test.true)
     (caps rows c.shared_arrows-shared.result shared r c.if-row-eq75.true (subst (Member c.shared_arrows-shared.result) here c.if-has.ensures))

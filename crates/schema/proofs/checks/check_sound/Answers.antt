@@ -9,9 +9,9 @@ use Rattle.schema.proofs.checks.check_sound.Goals as goal
 pub returns-in-Some : goal.returns-in-Some
 returns-in-Some c =
     let rows = c.args.rows.now in
-    unsound_row c.loop-k.k c.in-Some.field (get_or rows c.loop-k.k blank_row) c.requires (slice_get-get_or rows c.loop-k.k blank_row c.loop-k-test.true)
-    (each_below (Sound c.args.classes c.args.arrows) rows c.loop-k.k blank_row (omega arith) c.loop-k.invariant) c.in-Some.ensures
+    unsound_row c.loop-k.k c.in-Some.field (get_or rows c.loop-k.k blank_row) (record { few_classes = c.args.counts.few.0; few_arrows = c.args.counts.few.1; few_rows = c.requires }) (slice_get-get_or rows c.loop-k.k blank_row c.loop-k-test.true)
+    (each_below (Sound c.args.counts.classes c.args.counts.arrows) rows c.loop-k.k blank_row (omega arith) c.loop-k.invariant) c.in-Some.ensures
 
 pub returns : goal.returns
 returns c r m =
-    every_∈ (Sound c.args.classes c.args.arrows) c.args.rows.now blank_row (λ k l. c.loop-k.invariant k (omega arith)) r m
+    every_∈ (Sound c.args.counts.classes c.args.counts.arrows) c.args.rows.now blank_row (λ k l. c.loop-k.invariant k (omega arith)) r m

@@ -15,7 +15,7 @@ invariant_of-parts c =
     let sheet = c.args.sheet.now in
     let rows = c.rows-rows.result.now in
     let k = c.loop-k.k in
-    let few = sound_few sheet.classes sheet.arrows (get_or rows k blank_row) sheet.small.few_classes sheet.small.few_arrows
+    let few = sound_few sheet.counts.classes sheet.counts.arrows (get_or rows k blank_row) sheet.counts.few.0 sheet.counts.few.1
     (sheet.sound (get_or rows k blank_row) (subst (λ (rs : List Row). get_or rows k blank_row ∈ rs) c.rows-rows.ensures.same (Contains-get_or rows k blank_row c.loop-k-test.true))) in
     record { fits = (omega (arith, few.a_few), omega (arith, few.b_few), omega (arith, few.n_few)) }
 
@@ -29,5 +29,5 @@ returns c =
     let sheet = c.args.sheet.now in
     let rows = c.rows-rows.result.now in
     rw (← c.rows-rows.ensures.same)
-    (text_begun sheet.classes sheet.arrows rows _ c.args.bytes.now _ _ refl (omega (arith, c.requires, ap length c.rows-rows.ensures.same))
+    (text_begun sheet.counts.classes sheet.counts.arrows rows _ c.args.bytes.now _ _ refl (omega (arith, c.requires, ap length c.rows-rows.ensures.same))
     c.put_line.ensures (c.loop-k.invariant ∙ ap (λ l. spliced 14 (row_lines l) c.put_line.new.bytes) (take_all c.loop-k.k rows c.loop-k-test.false)))

@@ -1,13 +1,12 @@
-use Rattle.std.proofs.Common.{inl, inr, arith}
+use Rattle.std.proofs.Common.{inr, arith}
+use Rattle.std.proofs.lemmas.Result.{err_from_is_err_and}
 use Rattle.schema.specs.Verdicts.{over_limits}
 use Rattle.schema.proofs.sound_sheet.SoundSheet.of.Goals as goal
-use Rattle.schema.proofs.sound_sheet.SoundSheet.of.Goals.{then-classes-gt-MOST_CLASSES-via-then-classes-gt-MOST_CLASSES, then-classes-gt-MOST_CLASSES-via-else-classes-gt-MOST_CLASSES+then-arrows-gt-MOST_ARROWS, then-classes-gt-MOST_CLASSES-via-else-classes-gt-MOST_CLASSES+else-arrows-gt-MOST_ARROWS+then-len-gt-MOST_ROWS}
 
-pub returns-then-classes-gt-MOST_CLASSES : goal.returns-then-classes-gt-MOST_CLASSES
-returns-then-classes-gt-MOST_CLASSES g c =
-    over_limits
-    (elim c.then-classes-gt-MOST_CLASSES.branch [
-      | then-classes-gt-MOST_CLASSES-via-then-classes-gt-MOST_CLASSES w ↦ inl (omega (arith, c.classes-classes.ensures))
-      | then-classes-gt-MOST_CLASSES-via-else-classes-gt-MOST_CLASSES+then-arrows-gt-MOST_ARROWS w ↦ inr (inl (omega (arith, c.arrows-arrows.ensures)))
-      | then-classes-gt-MOST_CLASSES-via-else-classes-gt-MOST_CLASSES+else-arrows-gt-MOST_ARROWS+then-len-gt-MOST_ROWS w ↦ inr (inr (omega (arith, w.len.ensures)))
-    ])
+pub returns-in_err-counts : goal.returns-in_err-counts
+returns-in_err-counts g c =
+    let p = err_from_is_err_and c.from_residual.result c.from_residual.ensures.1 in
+    grind (arith, p, over_limits)
+
+pub returns-then-len-gt-MOST_ROWS : goal.returns-then-len-gt-MOST_ROWS
+returns-then-len-gt-MOST_ROWS g c = over_limits (inr (inr (omega arith)))

@@ -1,4 +1,4 @@
-use Rattle.std.proofs.Common.{◌≤◌, length, inl, inr, ⊎_elim, arith}
+use Rattle.std.proofs.Common.{◌≡◌, ◌≤◌, length, inr, arith}
 use Rattle.std.proofs.lemmas.Result.{err_from_is_err_and}
 use Rattle.schema.specs.Texts.{too_short, header_form, too_large, wrong_length}
 use Rattle.schema.proofs.TextLines.{heads_from}
@@ -13,14 +13,21 @@ returns-in_err-header c =
     let q = c.in_err-header.ensures in
     rw (p.1, p.2, q.1) (header_form q.0 (omega arith) q.2)
 
-pub returns-then-header-gt-MOST_CLASSES : goal.returns-then-header-gt-MOST_CLASSES
-returns-then-header-gt-MOST_CLASSES c =
+pub returns-in_err-counts : goal.returns-in_err-counts
+returns-in_err-counts c =
     let long : 14 ≤ length c.args.text.now = omega arith in
-    too_large _ _ _ (heads_from c.args.text.now _ _ _ long c.in_ok-header.ensures)
-    (⊎_elim inl (λ h. inr (⊎_elim (λ k. inl k.1) (λ k. inr (omega arith)) h)) c.then-header-gt-MOST_CLASSES.either)
+    let p = err_from_is_err_and c.from_residual-in_err-counts.result c.from_residual-in_err-counts.ensures.1 in
+    let h = heads_from c.args.text.now _ _ _ long c.in_ok-header.ensures in
+    grind (arith, p, h, too_large)
+
+pub returns-then-len-gt-MOST_ROWS : goal.returns-then-len-gt-MOST_ROWS
+returns-then-len-gt-MOST_ROWS c =
+    let long : 14 ≤ length c.args.text.now = omega arith in
+    too_large _ _ _ (heads_from c.args.text.now _ _ _ long c.in_ok-header.ensures) (inr (inr (omega arith)))
 
 pub returns-then-text-len : goal.returns-then-text-len
 returns-then-text-len c =
     let long : 14 ≤ length c.args.text.now = omega arith in
+    let same : (c.in_ok-counts.counts.classes ≡ c.in_ok-header.header.classes) × (c.in_ok-counts.counts.arrows ≡ c.in_ok-header.header.arrows) = grind arith in
     wrong_length _ _ _ (heads_from c.args.text.now _ _ _ long c.in_ok-header.ensures)
-    (omega arith) (omega arith) (omega arith) (λ e. c.if-text-len.true (rw c.from-len.ensures e))
+    (omega (arith, same, c.in_ok-counts.counts.few)) (omega (arith, same, c.in_ok-counts.counts.few)) (omega arith) (λ e. c.if-text-len.true (rw c.from-len.ensures e))

@@ -1,4 +1,4 @@
-use Rattle.std.proofs.Common.{◌≡◌, ◌+◌, ◌*◌, drop}
+use Rattle.std.proofs.Common.{◌≡◌, ◌+◌, ◌*◌, ◌≤◌, drop, length}
 use Rattle.std.specs.Iterator.Adapters.{enumerate_count, enumerate_source}
 use Rattle.std.specs.Slice.Iter.{chunks_exact_rest, chunks_exact_size}
 use Rattle.arrayvec.specs.ArrayVec.{array_vec_len}
@@ -10,4 +10,4 @@ invariant-loop-i l =
     let lines = enumerate_source l.i-iterator in
     let n = array_vec_len l.rows in
     (enumerate_count l.i-iterator ≡ n) × (chunks_exact_size lines ≡ 14) × (chunks_exact_rest lines ≡ drop (14 * (n + 1)) l.text)
-    × RowsRead l.text l.header.classes l.header.arrows l.rows.items
+    × (14 * (n + 1) ≤ length l.text) × RowsRead l.text l.counts.classes l.counts.arrows l.rows.items

@@ -14,6 +14,6 @@ pub returns-else-k-first : goal.returns-else-k-first
 returns-else-k-first g c =
     c.copied.ensures
     ∙ item_nth _ _ c.get.result c.get.ensures.lookup
-    ∙ ap (λ xs. slice_get xs (c.args.k - c.len-first.result)) c.deref.ensures.value
-    ∙ ap (λ n. slice_get (vec_items c.args.self.now.own) (c.args.k - n)) c.len-first.ensures
+    ∙ ap (λ xs. slice_get xs (c.args.k - c.len-first.result)) c.as_slice.ensures
+    ∙ ap (λ n. slice_get (vec_items c.args.self.now.own.list) (c.args.k - n)) c.len-first.ensures
     ∙ sym (own_row 65535 _ _ c.args.k (omega arith) (omega arith))
