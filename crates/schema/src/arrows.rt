@@ -15,7 +15,7 @@ use search::web::Web;
 pub(crate) const ARROWS: usize = 32;
 
 /// The arrows that each arrow lies in.
-#[derive(Drop)]
+#[derive(Clone, Copy)]
 pub(crate) struct Arrows {
     pub(crate) overs: [Set64; 32],
 }

@@ -7,14 +7,14 @@
 ghost use Rattle.std.specs.Prelude.{◌≡◌, ℕ, ◌+◌, ◌-◌, ◌*◌, ◌/◌, ◌<◌, ◌≤◌, ◌⊎◌, List, length, slice_index};
 ghost use Rattle.search.specs.Leads.{NextLink};
 ghost use Rattle.schema.specs.Masks.{Member, Gathers};
-ghost use Rattle.schema.specs.Points.{point};
+ghost use Rattle.schema.specs.Points.{point, supers_of};
 ghost use Rattle.schema.specs.Rows.{AllSound};
 ghost use Rattle.schema.specs.declared.row.Row.{Row as RowMeaning};
 ghost use Rattle.schema.specs.Keys.{Forward, ForwardEnd, Backward, keyed, EmptyKeys, TornSets, KeyBuilt, Known, Surveyed};
 ghost use Rattle.schema.specs.Verdicts.{NoSharedCap, Tells};
 ghost use Rattle.std.proofs.Common.{rules};
 
-use crate::arrows::{Arrows, torn_arrows};
+use crate::arrows::torn_arrows;
 use crate::descriptions::Descriptions;
 use crate::marking::marks_from;
 use crate::rivals::{list_rivals, torn_sets};
@@ -67,8 +67,7 @@ impl KeyLinks {
     {
         let links = Descriptions::of(sheet);
         let rivals = list_rivals(sheet, &links);
-        let arrows = Arrows { overs: links.overs };
-        let broken = torn_arrows(sheet, &arrows);
+        let broken = torn_arrows(sheet, &links.arrows);
         KeyLinks {
             links,
             rivals,
@@ -103,11 +102,11 @@ impl KeyLinks {
     // The classes that a key links to.
     fn classes_of(&self, from: usize) -> Set64
         requires { from < 128 }
-        ensures class { from < 64 → result ≡ slice_index self.now.links.supers from }
+        ensures class { from < 64 → result ≡ slice_index (supers_of self.now.links.classes) from }
         ensures end { 64 ≤ from → result ≡ slice_index self.now.links.domains (from - 64) }
     {
         if from < 64 {
-            self.links.supers[from]
+            self.links.classes[from].supers
         } else {
             self.links.domains[from - 64]
         }
@@ -120,9 +119,9 @@ impl KeyLinks {
         ensures { NextLink 64 (ForwardEnd self.now from) at result }
     {
         if from < 64 {
-            self.links.needs[from].next_from(at)
+            self.links.classes[from].needs.next_from(at)
         } else {
-            self.links.overs[(from - 64) / 2].next_strided::<2>(from % 2, at, 64)
+            self.links.arrows.overs[(from - 64) / 2].next_strided::<2>(from % 2, at, 64)
         }
     }
 }

@@ -57,7 +57,7 @@ impl Set64 {
         let rest = self.bits >> from;
         // as, since a usize has no From<u32>
         let found = from + rest.trailing_zeros() as usize;
-        if found < 64 { Some(found) } else { None }
+        (found < 64).then_some(found)
     }
 
     /// Whether the sets have a member in common.
@@ -76,12 +76,11 @@ impl Set64 {
     ) -> Option<usize>
         requires within { offset < STRIDE }
         requires few { STRIDE ≤ 64 }
-        requires low { at < end }
         requires known { end ≤ STRIDE * 64 }
         ensures { NextLink end (Strided self STRIDE offset) at result }
     {
-        let first = (at + (STRIDE - 1 - offset)) / STRIDE;
+        let first = at.saturating_sub(offset).div_ceil(STRIDE);
         let found = STRIDE * self.next_from(first)? + offset;
-        if found < end { Some(found) } else { None }
+        (found < end).then_some(found)
     }
 }

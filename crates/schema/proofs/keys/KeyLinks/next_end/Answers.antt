@@ -10,12 +10,12 @@ use Rattle.schema.proofs.keys.KeyLinks.next_end.Goals as goal
 -- the ends that an end links to
 module _ (w : KeyLinks) (i : ℕ) (h : 64 ≤ i) where
   abbrev Overs : ℕ → Type 0
-  Overs = Strided (get_or w.links.overs ((i - 64) / 2) 0) 2 (i % 2)
+  Overs = Strided (get_or w.links.arrows.overs ((i - 64) / 2) 0) 2 (i % 2)
 
   to : (e : ℕ) → e < 64 → Overs e → ForwardEnd w i e
   to e l t =
       let q : t.block ≡ e / 2 = omega (arith, t.is) in
-      by_arrow h (omega (arith, t.is)) l (subst (Member (get_or w.links.overs ((i - 64) / 2) 0)) q t.member)
+      by_arrow h (omega (arith, t.is)) l (subst (Member (get_or w.links.arrows.overs ((i - 64) / 2) 0)) q t.member)
 
   from : (e : ℕ) → e < 64 → ForwardEnd w i e → Overs e
   from e k (by_need l m) = absurd (omega arith)
@@ -27,4 +27,4 @@ returns-else-from-lt64 c =
     let i = c.args.from in
     let h = c.if-from-lt64.false in
     next_same 64 c.args.at (Overs w i h) (ForwardEnd w i) c.next_strided.result (to w i h) (from w i h)
-    (subst (λ (s : ℕ). NextLink 64 (Strided s 2 (i % 2)) c.args.at c.next_strided.result) (get_or_default w.links.overs ((i - 64) / 2) c.index-self-from-else-from-lt64.result 0 (omega arith)) c.next_strided.ensures)
+    (subst (λ (s : ℕ). NextLink 64 (Strided s 2 (i % 2)) c.args.at c.next_strided.result) (get_or_default w.links.arrows.overs ((i - 64) / 2) c.index-self-from-else-from-lt64.result 0 (omega arith)) c.next_strided.ensures)

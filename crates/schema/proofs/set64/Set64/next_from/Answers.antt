@@ -1,4 +1,6 @@
-use Rattle.std.proofs.Common.{◌≡◌, ℕ, ◌+◌, ◌-◌, ◌/◌, ◌^◌, ◌<◌, ◌≤◌, Some, None, sym, ap, ◌∙◌, subst, arith}
+use Rattle.std.proofs.Common.{◌≡◌, ℕ, ◌+◌, ◌-◌, ◌/◌, ◌^◌, ◌<◌, ◌≤◌, Some, nat_lt, sym, ap, ◌∙◌, subst, ⊎_elim, arith}
+use Rattle.std.specs.Bool.{then_some}
+use Rattle.std.proofs.lemmas.Bool.{cases_lt, lt-ltb, le-ltb}
 use lib.Count.{count_trailing_zeros}
 use Rattle.search.specs.Leads.{NextLink}
 use Rattle.schema.specs.Masks.{bit, Member}
@@ -22,12 +24,13 @@ here m from h =
 some : (m from : ℕ) → from + count_trailing_zeros 64 (m / 2 ^ from) < 64 → NextLink 64 (Member m) from (Some (from + count_trailing_zeros 64 (m / 2 ^ from)))
 some m from h = (omega arith, h, here m from (omega arith), λ k l i e. before m from k l i e)
 
-pub returns-then-found-lt64 : goal.returns-then-found-lt64
-returns-then-found-lt64 c =
-    let m = c.self.inside.bits in
-    subst (λ (x : ℕ). NextLink 64 (Member x) c.args.from (Some (c.args.from + count_trailing_zeros 64 (m / 2 ^ c.args.from)))) c.self.view_is
-    (some m c.args.from c.if-found-lt64.true)
+-- the first set bit of what is left, if there is one
+lowest : (m from : ℕ) → let k = from + count_trailing_zeros 64 (m / 2 ^ from) in NextLink 64 (Member m) from (then_some (nat_lt k 64) k)
+lowest m from =
+    let k = from + count_trailing_zeros 64 (m / 2 ^ from) in
+    ⊎_elim (λ (h : k < 64). rw (lt-ltb k 64 h) (some m from h)) (λ (h : 64 ≤ k). rw (le-ltb k 64 h) (λ j l i e. before m from j l (omega arith) e)) (cases_lt k 64)
 
-pub returns-else-found-lt64 : goal.returns-else-found-lt64
-returns-else-found-lt64 c =
-    subst (λ (x : ℕ). NextLink 64 (Member x) c.args.from None) c.self.view_is (λ k l h e. before c.self.inside.bits c.args.from k l (omega arith) e)
+pub returns : goal.returns
+returns c =
+    subst (λ (x : ℕ). NextLink 64 (Member x) c.args.from c.then_some.result) c.self.view_is
+    (subst (NextLink 64 (Member c.self.inside.bits) c.args.from) (sym c.then_some.ensures) (lowest c.self.inside.bits c.args.from))
