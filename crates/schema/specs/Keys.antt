@@ -1,7 +1,7 @@
 -- The descriptions that decide what is empty, and how the code finds it. For inner contracts: no call's promise
 -- rests on it.
 use Rattle.std.specs.Prelude.{◌≡◌, ℕ, ◌+◌, ◌-◌, ◌*◌, ◌/◌, ◌%◌, ◌<◌, ◌≤◌, true, false, cond, ◌⊎◌, List, Some, None, Option, ◌==◌, nat_lt, slice_index, slice_index_or}
-use Rattle.search.specs.Leads.{Leads}
+use Rattle.search.specs.Leads.{Leads, Joined}
 use Rattle.schema.specs.declared.row.Row.{Row}
 use Rattle.schema.specs.declared.arrows.Arrows.{Arrows}
 use Rattle.schema.specs.declared.descriptions.Descriptions.{Descriptions}
@@ -108,6 +108,12 @@ pub record KeyBuilt (rows : List Row) (w : KeyLinks) : Type 0 where
   pub links : Built rows w.links
   pub rivals : RivalSets w.links rows w.rivals
   pub broken : Gathers (ArrowTorn rows) 32 w.broken
+
+-- where the web of keys leads from a key, and whether what it leads to clashes
+pub record Studied (w : KeyLinks) (k : ℕ) (r : Reach) : Type 0 where
+  pub to_classes : Gathers (λ a. Leads (Joined 128 (Forward w)) k a) 64 r.classes
+  pub to_ends : Gathers (λ e. Leads (Joined 128 (Forward w)) k (64 + e)) 64 r.ends
+  pub tears : Tells r.torn (TornSets w.rivals r.classes ⊎ ((64 ≤ k) × Member w.broken ((k - 64) / 2)))
 
 -- what is known of a key
 pub record Known (rows : List Row) (k : ℕ) (r : Reach) : Type 0 where

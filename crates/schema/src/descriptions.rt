@@ -3,7 +3,7 @@
 //! Point 32·a is class a, and point 32·e + m is the mark (e, m), for m from 1 to 31. The web leaves out links that
 //! others make up for: a mark links down by one step at a time, and a class only to the highest of its marks at an
 //! end. It leads to the same points, over far fewer links.
-ghost use Rattle.std.specs.Prelude.{◌≡◌, ℕ, ◌+◌, ◌*◌, ◌/◌, ◌%◌, ◌<◌, ◌≤◌, slice_index};
+ghost use Rattle.std.specs.Prelude.{◌≡◌, ◌+◌, ◌*◌, ◌/◌, ◌%◌, ◌<◌, ◌≤◌};
 ghost use Rattle.search.specs.Leads.{NextLink};
 ghost use Rattle.schema.specs.Masks.{Lower};
 ghost use Rattle.schema.specs.Points.{Ways, Onward};

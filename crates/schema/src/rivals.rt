@@ -1,5 +1,5 @@
 //! The classes that clash with each class, by an X or a K row.
-ghost use Rattle.std.specs.Prelude.{ℕ, ◌<◌};
+ghost use Rattle.std.specs.Prelude.{◌<◌};
 ghost use Rattle.schema.specs.Masks.{Gathers};
 ghost use Rattle.schema.specs.Points.{count, counts_of};
 ghost use Rattle.schema.specs.Keys.{RivalSets, TornSets};
@@ -33,13 +33,13 @@ fn needing_more(links: &Descriptions, end: usize, cap: u16) -> Set64
     requires { end < 64 }
     ensures { Gathers (λ a. cap < count (counts_of links.now.classes) a end) 64 result }
 {
-    let mut found = Set64::EMPTY;
-    for (a, class) in links.classes.iter().enumerate() {
-        if class.counts[end] > cap {
-            found.insert(a);
-        }
-    }
-    found
+    let classes = &links.classes;
+    Set64::of_those(
+        64,
+        |a|
+            requires { (a < 64) × (end < 64) }
+        { classes[a].counts[end] > cap },
+    )
 }
 
 /// Whether a class and one of its rivals are both in a set of classes.
