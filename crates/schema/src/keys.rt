@@ -46,25 +46,21 @@ impl Web for KeyLinks {
     }
 
     fn next_link(&self, from: usize, at: usize) -> Option<usize> {
-        // the ends come after the 64 classes
-        let low = at.saturating_sub(64);
-        let (classes, end) = match from {
-            0..=63 => {
-                let class = &self.links.classes[from];
-                (class.supers, class.needs.next_from(low))
-            }
-            64..=127 => {
-                let overs = self.links.arrows.overs[(from - 64) / 2];
-                (
-                    self.links.domains[from - 64],
-                    overs.next_strided::<2>(from % 2, low, 64),
-                )
-            }
+        let classes = match from {
+            0..=63 => self.links.classes[from].supers,
+            64..=127 => self.links.domains[from - 64],
             _ => return None,
         };
         if let Some(class) = classes.next_from(at) {
             return Some(class);
         }
+        // the ends come after the 64 classes
+        let low = at.saturating_sub(64);
+        let end = if from < 64 {
+            self.links.classes[from].needs.next_from(low)
+        } else {
+            self.links.arrows.overs[(from - 64) / 2].next_strided::<2>(from % 2, low, 64)
+        };
         Some(64 + end?)
     }
 }
