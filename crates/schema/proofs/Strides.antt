@@ -1,30 +1,27 @@
 -- Numbers at a stride.
-use Rattle.std.proofs.Common.{◌≡◌, ℕ, ◌+◌, ◌-◌, ◌*◌, ◌<◌, ◌≤◌, Some, None, nat_lt, refl, ⊎_elim, arith}
+use Rattle.std.proofs.Common.{◌≡◌, ℕ, ◌+◌, ◌-◌, ◌*◌, ◌/◌, ◌<◌, ◌≤◌, Some, None, nat_lt, refl, ⊎_elim, arith}
 use Rattle.std.proofs.lemmas.Bool.{cases_lt, lt-ltb, le-ltb}
 use Rattle.std.specs.Bool.{then_some}
-use Rattle.std.proofs.Math.Nat.{mul-le-mul_right, lt_of_mul-lt-mul_left, lt_of_mul-lt-mul_right}
-use Rattle.std.proofs.lemmas.Grind.{div_ceil_times}
-use Rattle.std.specs.Int.{div_ceil}
+use Rattle.std.proofs.Math.Nat.{lt-mul-div-succ, div-lt_iff_lt-mul, mul-le-mul_left, lt_of_mul-lt-mul_left}
 use Rattle.search.specs.Leads.{NextLink}
 use Rattle.schema.specs.Masks.{Member, Strided}
 
 module _ (s o : ℕ) (l : o < s) where
   -- the first block that lies from `at` on
   abbrev pub first : ℕ → ℕ
-  first at = div_ceil (at - o) s
+  first at = (at + (s - 1 - o)) / s
 
   above : (at b : ℕ) → first at ≤ b → at ≤ s * b + o
   above at b h =
-      let m : first at * s ≤ b * s = mul-le-mul_right s h in
-      let c = div_ceil_times (at - o) s (omega arith) in
-      let d : b * s ≡ s * b = grind arith in
-      omega (arith, c.0)
+      let m : at + (s - 1 - o) < s * (first at + 1) = lt-mul-div-succ (at + (s - 1 - o)) (omega arith) in
+      let n : s * (first at + 1) ≤ s * (b + 1) = mul-le-mul_left s (omega arith) in
+      let d : s * (b + 1) ≡ s * b + s = grind arith in
+      omega arith
 
   below : (at b : ℕ) → at ≤ s * b + o → first at ≤ b
   below at b h =
-      let c = div_ceil_times (at - o) s (omega arith) in
       let d : (b + 1) * s ≡ s * b + s = grind arith in
-      let m : first at < b + 1 = lt_of_mul-lt-mul_right s (omega (arith, c.1)) in
+      let m : first at < b + 1 = (div-lt_iff_lt-mul {k = s} {x = at + (s - 1 - o)} {y = b + 1} (omega arith)).1 (omega arith) in
       omega arith
 
   less : (b c : ℕ) → s * b + o < s * c + o → b < c

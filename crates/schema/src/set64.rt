@@ -31,7 +31,7 @@ impl Set64 {
         ensures { Passes (F.post test) end result }
     {
         let mut found = Set64::EMPTY;
-        // a loop, since a Set64 has no FromIterator: from_iter would have to do something with a number above 63
+        // a loop, since neither from_iter nor the closure of a fold knows that its numbers are below 64
         for k in 0..end {
             if test(k) {
                 found.insert(k);
@@ -95,7 +95,10 @@ impl Set64 {
         requires known { end ≤ STRIDE * 64 }
         ensures { NextLink end (Strided self STRIDE offset) at result }
     {
-        let first = at.saturating_sub(offset).div_ceil(STRIDE);
+        if at >= end {
+            return None;
+        }
+        let first = (at + (STRIDE - 1 - offset)) / STRIDE;
         let found = STRIDE * self.next_from(first)? + offset;
         (found < end).then_some(found)
     }

@@ -4,7 +4,7 @@ ghost use Rattle.std.specs.Prelude.{◌≡◌, ℕ, ◌+◌, ◌*◌, ◌<◌, �
 use super::{POINTS, lower};
 use crate::set64::Set64;
 
-/// Where a class leads. A count is that of a sound row, so that it is the number of a mark.
+/// Where a class leads. Its counts are below 32, as those of sound rows are, so that each is the number of a mark.
 #[derive(Clone, Copy)]
 pub(crate) struct Class {
     // the classes that it lies in
