@@ -1,12 +1,15 @@
 -- The sets of a web after one more row.
-use Rattle.std.proofs.Common.{◌≡◌, ℕ, zero, suc, ◌<◌, ◌≤◌, ◌⊎◌, List, [], ◌∷◌, ◌++◌, length, get_or, set, replicate, sym, refl, ap, ◌∙◌, subst, inl, inr, ⊎_elim, arith, get_or-set_other, get_or-set_same}
+use Rattle.std.proofs.Common.{◌≡◌, ℕ, zero, suc, ◌<◌, ◌≤◌, ◌⊎◌, List, [], ◌∷◌, ◌++◌, length, get_or, set, replicate, max, sym, refl, ap, ◌∙◌, subst, inl, inr, ⊎_elim, arith, get_or-set_other, get_or-set_same}
 use Rattle.std.proofs.lemmas.List.Elements.{Contains-append_left, Contains-push, Contains-push_cases}
-use Rattle.std.proofs.lemmas.Bool.{cases_eq}
-use Rattle.std.proofs.lemmas.List.{get_or_default, length-set, length-replicate}
+use Rattle.std.proofs.lemmas.Bool.{cases_eq, cases_lt}
+use Rattle.std.proofs.lemmas.List.{get_or_default, get_or-map, map-set, length-map}
+use Rattle.std.proofs.Math.Seq.{map-set_same}
+use Rattle.schema.specs.declared.descriptions.Descriptions.{Descriptions}
+use Rattle.schema.specs.declared.descriptions.class.Class.{Class}
 use Rattle.schema.specs.declared.row.Row.{Row}
 use Rattle.schema.specs.Masks.{Member, Joins}
 use Rattle.schema.specs.Rows.{◌∈◌, shape_of, Fits, Sound}
-use Rattle.schema.specs.Points.{plain, count, Told, Needed}
+use Rattle.schema.specs.Points.{plain, supers_of, needs_of, counts_of, count, Raised, Told, Needed, Built}
 use Rattle.schema.proofs.Bits.{member_zero}
 use Rattle.schema.proofs.Members.{not_in_empty}
 
@@ -76,97 +79,148 @@ needing a e n = record { letter = 70; a = a; b = e; n = n }
 pub needed_other : (sets : List ℕ) (counts : List (List ℕ)) (rows : List Row) (r : Row) → (r.letter ≡ 70 → ⊥) → Needed sets counts rows → Needed sets counts (rows ++ r ∷ [])
 needed_other sets counts rows r x t =
     record {
-      wide = t.wide;
       some = t.some;
       only = λ a e l h. Contains-append_left rows (r ∷ []) (needing a e (count counts a e)) (t.only a e l h);
       all = λ a e n m. ⊎_elim (λ (k : needing a e n ∈ rows). t.all a e n k) (λ (k : r ≡ needing a e n). absurd (x (ap (λ (q : Row). q.letter) k))) (Contains-push_cases rows r (needing a e n) m);
     }
 
--- one more need that is no higher than what is known, or a higher one
-module _ (sets : List ℕ) (counts : List (List ℕ)) (rows : List Row) (r : Row) (v : ℕ) (x : r.letter ≡ 70) (w : r.a < length sets) (pos : 1 ≤ r.n) (end : r.b < 64)
-    (j : Joins (get_or sets r.a 0) r.b v) (t : Needed sets counts rows) where
+-- one more need, put into the sets and counts of its class
+module _ (sets : List ℕ) (counts : List (List ℕ)) (rows : List Row) (r : Row) (v : ℕ) (line : List ℕ) (x : r.letter ≡ 70) (w : r.a < length sets) (lw : r.a < length counts) (pos : 1 ≤ r.n)
+    (j : Joins (get_or sets r.a 0) r.b v) (up : Raised (get_or counts r.a []) r.b r.n line) (t : Needed sets counts rows) where
+  abbrev counts' : List (List ℕ)
+  counts' = set counts r.a line
+
   same : (a e : ℕ) → a ≡ r.a → e ≡ r.b → count counts a e ≡ count counts r.a r.b
   same a e p q = ap (λ (i : ℕ). count counts i e) p ∙ ap (λ (i : ℕ). count counts r.a i) q
 
-  pub needed_lower : r.n ≤ count counts r.a r.b → Needed (set sets r.a v) counts (rows ++ r ∷ [])
-  needed_lower h =
+  here : (a e : ℕ) → a ≡ r.a → e ≡ r.b → count counts' a e ≡ max (count counts a e) r.n
+  here a e p q =
+      ap (λ (i : ℕ). count counts' i e) p ∙ ap (λ (l : List ℕ). get_or l e 0) (get_or-set_same counts r.a line [] lw)
+      ∙ ap (λ (i : ℕ). get_or line i 0) q ∙ up.here ∙ ap (λ (n : ℕ). max n r.n) (sym (same a e p q))
+
+  beside : (a e : ℕ) → a ≡ r.a → (e ≡ r.b → ⊥) → count counts' a e ≡ count counts a e
+  beside a e p n =
+      ap (λ (i : ℕ). count counts' i e) p ∙ ap (λ (l : List ℕ). get_or l e 0) (get_or-set_same counts r.a line [] lw)
+      ∙ up.there e n ∙ sym (ap (λ (i : ℕ). count counts i e) p)
+
+  there : (a e : ℕ) → ((a ≡ r.a) × (e ≡ r.b) → ⊥) → count counts' a e ≡ count counts a e
+  there a e n =
+      ⊎_elim (λ (p : a ≡ r.a). beside a e p (λ q. n (p, q)))
+      (λ (p : a ≡ r.a → ⊥). ap (λ (l : List ℕ). get_or l e 0) (get_or-set_other counts r.a a line [] p))
+      (cases_eq a r.a)
+
+  place : (a e : ℕ) → ((a ≡ r.a) × (e ≡ r.b)) ⊎ ((a ≡ r.a) × (e ≡ r.b) → ⊥)
+  place a e =
+      ⊎_elim (λ (p : a ≡ r.a). ⊎_elim (λ (q : e ≡ r.b). inl (p, q)) (λ (q : e ≡ r.b → ⊥). inr (λ h. q h.1)) (cases_eq e r.b))
+      (λ (p : a ≡ r.a → ⊥). inr (λ h. p h.0)) (cases_eq a r.a)
+
+  -- no count falls
+  higher : (a e : ℕ) → count counts a e ≤ count counts' a e
+  higher a e = ⊎_elim (λ (q : (a ≡ r.a) × (e ≡ r.b)). omega (arith, here a e q.0 q.1)) (λ (q : (a ≡ r.a) × (e ≡ r.b) → ⊥). omega (arith, there a e q)) (place a e)
+
+  -- a count that is as it was is that of a row
+  old : (a e : ℕ) → e < 64 → count counts' a e ≡ count counts a e → 0 < count counts' a e → needing a e (count counts' a e) ∈ (rows ++ r ∷ [])
+  old a e l s m = subst (λ (n : ℕ). needing a e n ∈ (rows ++ r ∷ [])) (sym s) (Contains-append_left rows (r ∷ []) (needing a e (count counts a e)) (t.only a e l (omega (arith, s, m))))
+
+  pub needed_more : Needed (set sets r.a v) counts' (rows ++ r ∷ [])
+  needed_more =
       record {
-        wide = t.wide;
-        some = λ a e l m. ⊎_elim (λ (k : Member (get_or sets a 0) e). t.some a e l k)
-            (λ (k : (a ≡ r.a) × (e ≡ r.b)). let q = same a e k.0 k.1 in omega arith)
+        some = λ a e l m. ⊎_elim (λ (k : Member (get_or sets a 0) e). omega (arith, higher a e, t.some a e l k))
+            (λ (k : (a ≡ r.a) × (e ≡ r.b)). omega (arith, here a e k.0 k.1))
             (member_more sets r.a r.b v w j a e m);
-        only = λ a e l m. Contains-append_left rows (r ∷ []) (needing a e (count counts a e)) (t.only a e l m);
+        only = λ a e l m. ⊎_elim
+            (λ (q : (a ≡ r.a) × (e ≡ r.b)).
+            let s = here a e q.0 q.1 in
+            ⊎_elim (λ (h : count counts a e < r.n).
+            let is : count counts' a e ≡ r.n = omega (arith, s) in
+            subst (λ (y : Row). y ∈ (rows ++ r ∷ [])) (sym (row_is r 70 a e (count counts' a e) x (sym q.0) (sym q.1) (sym is))) (Contains-push rows r))
+            (λ (h : r.n ≤ count counts a e). old a e l (omega (arith, s)) m) (cases_lt (count counts a e) r.n))
+            (λ (q : (a ≡ r.a) × (e ≡ r.b) → ⊥). old a e l (there a e q) m)
+            (place a e);
         all = λ a e n m. ⊎_elim
-            (λ (k : needing a e n ∈ rows). let q = t.all a e n k in (member_kept sets r.a r.b v w j a e q.0, q.1))
+            (λ (k : needing a e n ∈ rows). let q = t.all a e n k in (member_kept sets r.a r.b v w j a e q.0, omega (arith, higher a e, q.1)))
             (λ (k : r ≡ needing a e n).
             let ka : a ≡ r.a = ap (λ (q : Row). q.a) (sym k) in
             let kb : e ≡ r.b = ap (λ (q : Row). q.b) (sym k) in
             let kn : n ≡ r.n = ap (λ (q : Row). q.n) (sym k) in
-            let q = same a e ka kb in
-            (member_new sets r.a r.b v w j a e ka kb, omega arith))
+            (member_new sets r.a r.b v w j a e ka kb, omega (arith, here a e ka kb)))
             (Contains-push_cases rows r (needing a e n) m);
       }
 
-  -- the row's count in the place of a lower one
-  module _ (line : List ℕ) (is : line ≡ get_or counts r.a []) (la : r.a < length counts) (lb : r.b < length line) where
-    abbrev counts' : List (List ℕ)
-    counts' = set counts r.a (set line r.b r.n)
+-- a web with one more row
+module _ (w : Descriptions) (rows : List Row) (r : Row) (t : Built rows w) where
+  abbrev After : Descriptions → Type 0
+  After = Built (rows ++ r ∷ [])
 
-    here : (a e : ℕ) → a ≡ r.a → e ≡ r.b → count counts' a e ≡ r.n
-    here a e p q =
-        ap (λ (i : ℕ). count counts' i e) p ∙ ap (λ (l : List ℕ). get_or l e 0) (get_or-set_same counts r.a (set line r.b r.n) [] la)
-        ∙ ap (λ (i : ℕ). get_or (set line r.b r.n) i 0) q ∙ get_or-set_same line r.b r.n 0 lb
+  pub built_other : (r.letter ≡ 83 → ⊥) → (r.letter ≡ 68 → ⊥) → (r.letter ≡ 80 → ⊥) → (r.letter ≡ 70 → ⊥) → After w
+  built_other s d p f =
+      record {
+        supers = told_other 83 (supers_of w.classes) rows r s t.supers;
+        domains = told_other 68 w.domains rows r d t.domains;
+        overs = told_other 80 w.arrows.overs rows r p t.overs;
+        needs = needed_other (needs_of w.classes) (counts_of w.classes) rows r f t.needs;
+      }
 
-    beside : (a e : ℕ) → a ≡ r.a → (e ≡ r.b → ⊥) → count counts' a e ≡ count counts a e
-    beside a e p n =
-        ap (λ (i : ℕ). count counts' i e) p ∙ ap (λ (l : List ℕ). get_or l e 0) (get_or-set_same counts r.a (set line r.b r.n) [] la)
-        ∙ get_or-set_other line r.b e r.n 0 n ∙ ap (λ (l : List ℕ). get_or l e 0) is ∙ sym (ap (λ (i : ℕ). count counts i e) p)
+  pub built_domain : (a b d v : ℕ) → a ≡ r.a → b ≡ r.b → r.letter ≡ 68 → r.n ≡ 0 → r.a < length w.domains → Joins (get_or w.domains a d) b v
+      → After (record { classes = w.classes; domains = set w.domains a v; arrows = w.arrows })
+  built_domain a b d v p q e z l j =
+      record {
+        supers = told_other 83 (supers_of w.classes) rows r (λ x. omega arith) t.supers;
+        domains = told_more 68 w.domains rows r a b d v e z p q l j t.domains;
+        overs = told_other 80 w.arrows.overs rows r (λ x. omega arith) t.overs;
+        needs = needed_other (needs_of w.classes) (counts_of w.classes) rows r (λ x. omega arith) t.needs;
+      }
 
-    there : (a e : ℕ) → ((a ≡ r.a) × (e ≡ r.b) → ⊥) → count counts' a e ≡ count counts a e
-    there a e n =
-        ⊎_elim (λ (p : a ≡ r.a). beside a e p (λ q. n (p, q)))
-        (λ (p : a ≡ r.a → ⊥). ap (λ (l : List ℕ). get_or l e 0) (get_or-set_other counts r.a a (set line r.b r.n) [] p))
-        (cases_eq a r.a)
+  pub built_over : (a b d v : ℕ) → a ≡ r.a → b ≡ r.b → r.letter ≡ 80 → r.n ≡ 0 → r.a < length w.arrows.overs → Joins (get_or w.arrows.overs a d) b v
+      → After (record { classes = w.classes; domains = w.domains; arrows = record { overs = set w.arrows.overs a v } })
+  built_over a b d v p q e z l j =
+      record {
+        supers = told_other 83 (supers_of w.classes) rows r (λ x. omega arith) t.supers;
+        domains = told_other 68 w.domains rows r (λ x. omega arith) t.domains;
+        overs = told_more 80 w.arrows.overs rows r a b d v e z p q l j t.overs;
+        needs = needed_other (needs_of w.classes) (counts_of w.classes) rows r (λ x. omega arith) t.needs;
+      }
 
-    place : (a e : ℕ) → ((a ≡ r.a) × (e ≡ r.b)) ⊎ ((a ≡ r.a) × (e ≡ r.b) → ⊥)
-    place a e =
-        ⊎_elim (λ (p : a ≡ r.a). ⊎_elim (λ (q : e ≡ r.b). inl (p, q)) (λ (q : e ≡ r.b → ⊥). inr (λ h. q h.1)) (cases_eq e r.b))
-        (λ (p : a ≡ r.a → ⊥). inr (λ h. p h.0)) (cases_eq a r.a)
+  module _ (d c : Class) (l : r.a < length w.classes) where
+    abbrev With : ℕ → Descriptions
+    With a = record { classes = set w.classes a c; domains = w.domains; arrows = w.arrows }
 
-    pub needed_higher : count counts r.a r.b < r.n → Needed (set sets r.a v) counts' (rows ++ r ∷ [])
-    needed_higher h =
+    -- one more class that a class lies in
+    pub built_super : (a b : ℕ) → a ≡ r.a → b ≡ r.b → r.letter ≡ 83 → r.n ≡ 0 → Joins (get_or w.classes a d).supers b c.supers
+        → c.needs ≡ (get_or w.classes a d).needs → c.counts ≡ (get_or w.classes a d).counts → After (With a)
+    built_super a b p q e z j x y =
+        let f : Class → ℕ = λ (k : Class). k.supers in
+        let h : Joins (get_or (supers_of w.classes) a 0) b c.supers = subst (λ (m : ℕ). Joins m b c.supers) (sym (get_or-map f w.classes a d 0 (omega arith))) j in
         record {
-          wide = λ a l. ⊎_elim
-              (λ (p : a ≡ r.a).
-              ap (λ (i : ℕ). length (get_or counts' i [])) p ∙ ap (λ (l : List ℕ). length l) (get_or-set_same counts r.a (set line r.b r.n) [] la) ∙ length-set line r.b r.n
-              ∙ ap (λ (l : List ℕ). length l) is ∙ t.wide r.a (omega arith))
-              (λ (p : a ≡ r.a → ⊥). ap (λ (l : List ℕ). length l) (get_or-set_other counts r.a a (set line r.b r.n) [] p) ∙ t.wide a l)
-              (cases_eq a r.a);
-          some = λ a e l m. ⊎_elim
-              (λ (q : (a ≡ r.a) × (e ≡ r.b)). omega (arith, here a e q.0 q.1))
-              (λ (q : (a ≡ r.a) × (e ≡ r.b) → ⊥).
-              ⊎_elim (λ (k : Member (get_or sets a 0) e). omega (arith, there a e q, t.some a e l k)) (λ (k : (a ≡ r.a) × (e ≡ r.b)). absurd (q k)) (member_more sets r.a r.b v w j a e m))
-              (place a e);
-          only = λ a e l m. ⊎_elim
-              (λ (q : (a ≡ r.a) × (e ≡ r.b)).
-              subst (λ (s : Row). s ∈ (rows ++ r ∷ [])) (sym (row_is r 70 a e (count counts' a e) x (sym q.0) (sym q.1) (sym (here a e q.0 q.1)))) (Contains-push rows r))
-              (λ (q : (a ≡ r.a) × (e ≡ r.b) → ⊥).
-              let s = there a e q in
-              subst (λ (n : ℕ). needing a e n ∈ (rows ++ r ∷ [])) (sym s) (Contains-append_left rows (r ∷ []) (needing a e (count counts a e)) (t.only a e l (omega (arith, s, m)))))
-              (place a e);
-          all = λ a e n m. ⊎_elim
-              (λ (k : needing a e n ∈ rows). let q = t.all a e n k in (
-                member_kept sets r.a r.b v w j a e q.0,
-                ⊎_elim (λ (s : (a ≡ r.a) × (e ≡ r.b)). omega (arith, here a e s.0 s.1, same a e s.0 s.1, q.1))
-                    (λ (s : (a ≡ r.a) × (e ≡ r.b) → ⊥). omega (arith, there a e s, q.1)) (place a e),
-              ))
-              (λ (k : r ≡ needing a e n).
-              let ka : a ≡ r.a = ap (λ (q : Row). q.a) (sym k) in
-              let kb : e ≡ r.b = ap (λ (q : Row). q.b) (sym k) in
-              let kn : n ≡ r.n = ap (λ (q : Row). q.n) (sym k) in
-              (member_new sets r.a r.b v w j a e ka kb, omega (arith, here a e ka kb)))
-              (Contains-push_cases rows r (needing a e n) m);
+          supers = subst (λ (s : List ℕ). Told 83 s (rows ++ r ∷ [])) (sym (map-set f w.classes a c)) (told_more 83 (supers_of w.classes) rows r a b 0 c.supers e z p q (omega (arith, length-map w.classes f)) h t.supers);
+          domains = told_other 68 w.domains rows r (λ x. omega arith) t.domains;
+          overs = told_other 80 w.arrows.overs rows r (λ x. omega arith) t.overs;
+          needs = subst (λ (s : List ℕ). Needed s (counts_of (set w.classes a c)) (rows ++ r ∷ [])) (sym (map-set_same (λ (k : Class). k.needs) w.classes a c d x))
+              (subst (λ (s : List (List ℕ)). Needed (needs_of w.classes) s (rows ++ r ∷ [])) (sym (map-set_same (λ (k : Class). k.counts) w.classes a c d y))
+              (needed_other (needs_of w.classes) (counts_of w.classes) rows r (λ x. omega arith) t.needs));
         }
+
+    -- one more need of a class
+    abbrev Need : ℕ → ℕ → Type 0
+    Need a b = Joins (get_or w.classes a d).needs b c.needs → Raised (get_or w.classes a d).counts b r.n c.counts → c.supers ≡ (get_or w.classes a d).supers → After (With a)
+
+    need : r.letter ≡ 70 → 1 ≤ r.n → Need r.a r.b
+    need e o j u x =
+        let f : Class → ℕ = λ (k : Class). k.needs in
+        let g : Class → List ℕ = λ (k : Class). k.counts in
+        let h : Joins (get_or (needs_of w.classes) r.a 0) r.b c.needs = subst (λ (m : ℕ). Joins m r.b c.needs) (sym (get_or-map f w.classes r.a d 0 l)) j in
+        let v : Raised (get_or (counts_of w.classes) r.a []) r.b r.n c.counts = subst (λ (m : List ℕ). Raised m r.b r.n c.counts) (sym (get_or-map g w.classes r.a d [] l)) u in
+        record {
+          supers = subst (λ (s : List ℕ). Told 83 s (rows ++ r ∷ [])) (sym (map-set_same (λ (k : Class). k.supers) w.classes r.a c d x)) (told_other 83 (supers_of w.classes) rows r (λ y. omega arith) t.supers);
+          domains = told_other 68 w.domains rows r (λ y. omega arith) t.domains;
+          overs = told_other 80 w.arrows.overs rows r (λ y. omega arith) t.overs;
+          needs = subst (λ (s : List ℕ). Needed s (counts_of (set w.classes r.a c)) (rows ++ r ∷ [])) (sym (map-set f w.classes r.a c))
+              (subst (λ (s : List (List ℕ)). Needed (set (needs_of w.classes) r.a c.needs) s (rows ++ r ∷ [])) (sym (map-set g w.classes r.a c))
+              (needed_more (needs_of w.classes) (counts_of w.classes) rows r c.needs c.counts e (omega (arith, length-map w.classes f)) (omega (arith, length-map w.classes g)) o h v t.needs));
+        }
+
+    pub built_need : (a b : ℕ) → a ≡ r.a → b ≡ r.b → r.letter ≡ 70 → 1 ≤ r.n → Need a b
+    built_need a b p q e o = subst (λ (i : ℕ). Need i b) (sym p) (subst (λ (i : ℕ). Need r.a i) (sym q) (need e o))
 
 -- what a sound row of a letter keeps to
 pub fits_at : (r : Row) (l : ℕ) → r.letter ≡ l → Sound 64 32 r → Fits 64 32 r (shape_of l)
@@ -190,15 +244,9 @@ lines_at zero m a e = refl
 lines_at (suc n) m zero e = zeros_at m e
 lines_at (suc n) m (suc a) e = lines_at n m a e
 
-lines_long : (n m a : ℕ) → a < n → length {A = ℕ} (get_or (replicate n (replicate m 0)) a []) ≡ m
-lines_long zero m a h = absurd (omega arith)
-lines_long (suc n) m zero h = length-replicate m 0
-lines_long (suc n) m (suc a) h = lines_long n m a (omega arith)
-
 pub needed_none : (n : ℕ) → Needed (replicate n 0) (replicate 64 (replicate 64 0)) []
 needed_none n =
     record {
-      wide = λ a l. lines_long 64 64 a l;
       some = λ a e l x. absurd (member_zero _ e (zeros_at n a) x);
       only = λ a e l x. absurd (omega (arith, lines_at 64 64 a e));
       all = λ a e k x. absurd (not_in_empty x);

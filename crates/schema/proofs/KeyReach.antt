@@ -8,7 +8,7 @@ use Rattle.schema.specs.declared.keys.KeyLinks.{KeyLinks}
 use Rattle.schema.specs.Masks.{Member}
 use Rattle.schema.specs.Rows.{AllSound}
 use Rattle.schema.specs.Rules.{S, D, F, P, row, Has, arrow}
-use Rattle.schema.specs.Points.{Placed, count, Built}
+use Rattle.schema.specs.Points.{Placed, count, counts_of, Built}
 use Rattle.schema.specs.Keys.{keyed, Forward, class_class, end_class, to_an_end, ForwardEnd, by_need, by_arrow}
 use Rattle.schema.specs.Webs.{Description, cls, mark, Link, by_S, by_F, by_D, down, by_P}
 use Rattle.schema.proofs.Reach.{link_placed}
@@ -46,7 +46,7 @@ module _ (rows : List Row) (w : KeyLinks) (built : Built rows w.links) (sound : 
   -- a way of the rows' web that a link between keys stands for
   end_way : (i e : ℕ) → i < 128 → e < 64 → ForwardEnd w i e → Leads (Link rows) (keyed i) (mark e 1)
   end_way i e h l (by_need s m) =
-      let n = count w.links.counts i e in
+      let n = count (counts_of w.links.classes) i e in
       let pos : 0 < n = built.needs.some i e l m in
       let has : Has rows (F i e n) = built.needs.only i e l pos in
       subst (λ (d : Description). Leads (Link rows) d (mark e 1)) (sym (keyed_class i s))
@@ -94,7 +94,7 @@ module _ (rows : List Row) (w : KeyLinks) (built : Built rows w.links) (sound : 
       let r = sound (row (P (arrow e) (arrow f))) h in
       let a : arrow e ≡ (64 + e - 64) / 2 = omega arith in
       leads_one (end_step (64 + e) f (omega arith) (omega (arith, r.1))
-      (by_arrow (omega arith) (omega arith) (omega (arith, r.1)) (subst (λ (x : ℕ). Member (get_or w.links.overs x 0) (arrow f)) a (built.overs.all (arrow e) (arrow f) h))))
+      (by_arrow (omega arith) (omega arith) (omega (arith, r.1)) (subst (λ (x : ℕ). Member (get_or w.links.arrows.overs x 0) (arrow f)) a (built.overs.all (arrow e) (arrow f) h))))
 
   keys_below : {d u : Description} → Leads (Link rows) d u → Placed d → Leads Step (key_of d) (key_of u)
   keys_below stay h = stay

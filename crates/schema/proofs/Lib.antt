@@ -24,6 +24,7 @@ pub mod Ones
 pub mod Printables
 pub mod Reach
 pub mod Rivalry
+pub mod RowBounds
 pub mod RowLines
 pub mod Signs
 pub mod Splices

@@ -6,7 +6,7 @@ use Rattle.schema.specs.declared.row.Row.{Row}
 use Rattle.schema.specs.declared.descriptions.Descriptions.{Descriptions}
 use Rattle.schema.specs.Rows.{AllSound}
 use Rattle.schema.specs.Rules.{S, D, F, P, row, Has, arrow, side}
-use Rattle.schema.specs.Points.{point, Placed, count, Ways, up, need, domain, below, along, Onward, Built}
+use Rattle.schema.specs.Points.{point, Placed, count, counts_of, Ways, up, need, domain, below, along, Onward, Built}
 use Rattle.schema.specs.Webs.{Description, cls, mark, Link, by_S, by_F, by_D, down, by_P}
 
 pub point_below : (d : Description) → Placed d → point d < 2048
@@ -52,11 +52,11 @@ module _ (rows : List Row) (w : Descriptions) (built : Built rows w) (sound : Al
       let has = built.supers.only a t.block t.member in
       record { to = cls t.block; placed = (sound (row (S a t.block)) has).1; is = omega (arith, t.is); linked = by_S has }
   from_class_lem a j (need e t) =
-      let n = count w.counts a t.end in
+      let n = count (counts_of w.classes) a t.end in
       let pos : 0 < n = built.needs.some a t.end t.small t.member in
       let has : Has rows (F a t.end n) = built.needs.only a t.end t.small pos in
       let r = sound (row (F a t.end n)) has in
-      record { to = mark t.end n; placed = (t.small, pos, omega (arith, r.3)); is = omega (arith, t.is, r.3); linked = by_F has }
+      record { to = mark t.end n; placed = (t.small, pos, omega (arith, r.3)); is = t.is; linked = by_F has }
   from_class_lem a j (domain e t) = absurd (omega arith)
   from_class_lem a j (below h e) = absurd (omega arith)
   from_class_lem a j (along h t) = absurd (omega arith)
@@ -145,13 +145,12 @@ module _ (rows : List Row) (w : Descriptions) (built : Built rows w) (sound : Al
       leads_one (step_from_class a (32 * b) k (omega (arith, r.1)) (up refl (record { block = b; member = built.supers.all a b h; is = omega arith })))
   link_way (by_F {a} {e} {n} h) k =
       let r = sound (row (F a e n)) h in
-      let m = count w.counts a e in
+      let m = count (counts_of w.classes) a e in
       let q = built.needs.all a e n h in
       let small : e < 64 = omega (arith, r.1) in
       let high = sound (row (F a e m)) (built.needs.only a e small (omega (arith, r.2, q.1))) in
-      let at : 32 * e + m ≡ 32 * e + m % 32 = omega (arith, high.3) in
       let f : Placed (mark e m) = (small, high.2, omega (arith, high.3)) in
-      leads_both (leads_one (step_from_class a (32 * e + m) k (omega (arith, high.3)) (need refl (record { end = e; small = small; member = q.0; is = at })))) (lowers e m n f r.2 q.1)
+      leads_both (leads_one (step_from_class a (32 * e + m) k (omega (arith, high.3)) (need refl (record { end = e; small = small; member = q.0; is = refl })))) (lowers e m n f r.2 q.1)
   link_way (by_D {e} {b} h) k =
       let r = sound (row (D e b)) h in
       leads_one (step_from_mark e 1 (32 * b) k (omega (arith, r.1)) (domain refl (record { block = b; member = built.domains.all e b h; is = omega arith })))

@@ -8,7 +8,7 @@ use Rattle.search.proofs.Trails.{leads_then}
 use Rattle.schema.specs.declared.row.Row.{Row}
 use Rattle.schema.specs.declared.descriptions.Descriptions.{Descriptions}
 use Rattle.schema.specs.Masks.{Member, Gathers}
-use Rattle.schema.specs.Points.{count, Built}
+use Rattle.schema.specs.Points.{count, counts_of, Built}
 use Rattle.schema.specs.Rows.{◌∈◌, AllSound}
 use Rattle.schema.specs.Rules.{X, F, K, row, Has, arrow, side}
 use Rattle.schema.specs.Keys.{keyed, Rival, apart, needs_more, RivalSets, TornSets}
@@ -75,7 +75,7 @@ module _ (rows : List Row) (sound : AllSound 64 32 rows) (uncapped : NoSharedCap
       (cls r.a, cls b, p, q, inl (by_X has))
   rival_clash r b m p q l (needs_more e s) =
       let f = fits_at r 75 e (sound r m) in
-      let n = count w.counts b r.b in
+      let n = count (counts_of w.classes) b r.b in
       let has : Has rows (K r.a r.b r.n) = subst (λ (x : Row). x ∈ rows) (sym (row_is r 75 r.a r.b r.n e refl refl refl)) m in
       let needed : Has rows (F b r.b n) = built.needs.only b r.b (omega (arith, f.1)) (omega arith) in
       (cls r.a, mark r.b n, p, leads_then q (by_F needed), inl (by_K has s))

@@ -1,6 +1,6 @@
 -- A byte or a test that tells whether a fact holds.
-use Rattle.std.proofs.Common.{◌≡◌, ℕ, Bool, true, false, eqb, ◌⊎◌, sym, refl, subst, inl, inr, ⊎_elim, arith}
-use Rattle.std.proofs.lemmas.Bool.{eq-eqb, ne_eqb}
+use Rattle.std.proofs.Common.{◌≡◌, ℕ, ◌<◌, ◌≤◌, Bool, true, false, eqb, nat_lt, ◌⊎◌, sym, refl, subst, inl, inr, ⊎_elim, arith}
+use Rattle.std.proofs.lemmas.Bool.{cases_lt, eq-eqb, ne_eqb, lt-ltb, le-ltb}
 use Rattle.schema.specs.Verdicts.{Bit, Tells}
 
 -- a byte that is 1
@@ -53,3 +53,8 @@ tells_one x e a = tells_true (eq-eqb x 1 e) a
 pub tells_bit : (x : ℕ) {A : Type 0} → Bit x A → Tells (eqb x 1) A
 tells_bit x {A} (inl (e, a)) = tells_one x e a
 tells_bit x {A} (inr (e, f)) = subst (λ (b : Bool). Tells b A) (sym (ne_eqb x 1 (λ o. omega arith))) f
+
+-- the test whether a number is lower
+pub tells_lt : (m n : ℕ) → Tells (nat_lt m n) (m < n)
+tells_lt m n =
+    ⊎_elim (λ (l : m < n). tells_true (lt-ltb m n l) l) (λ (l : n ≤ m). subst (λ (b : Bool). Tells b (m < n)) (sym (le-ltb m n l)) (λ h. omega arith)) (cases_lt m n)

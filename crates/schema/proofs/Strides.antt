@@ -1,5 +1,7 @@
 -- Numbers at a stride.
-use Rattle.std.proofs.Common.{◌≡◌, ℕ, ◌+◌, ◌-◌, ◌*◌, ◌/◌, ◌<◌, ◌≤◌, Some, None, refl, arith}
+use Rattle.std.proofs.Common.{◌≡◌, ℕ, ◌+◌, ◌-◌, ◌*◌, ◌/◌, ◌<◌, ◌≤◌, Some, None, nat_lt, refl, ⊎_elim, arith}
+use Rattle.std.proofs.lemmas.Bool.{cases_lt, lt-ltb, le-ltb}
+use Rattle.std.specs.Bool.{then_some}
 use Rattle.std.proofs.Math.Nat.{lt-mul-div-succ, div-lt_iff_lt-mul, mul-le-mul_left, lt_of_mul-lt-mul_left}
 use Rattle.search.specs.Leads.{NextLink}
 use Rattle.schema.specs.Masks.{Member, Strided}
@@ -33,10 +35,13 @@ module _ (s o : ℕ) (l : o < s) where
     pub strided_none : NextLink 64 (Member set) (first at) None → NextLink end (Strided set s o) at None
     strided_none h j a b t = h t.block (below at t.block (omega (arith, t.is))) (less_end t.block 64 end (omega (arith, t.is)) low) t.member
 
-    -- the lowest block gives the lowest number
-    pub strided_some : (b : ℕ) → NextLink 64 (Member set) (first at) (Some b) → s * b + o < end → NextLink end (Strided set s o) at (Some (s * b + o))
-    strided_some b h l =
-        (above at b h.0, l, record { block = b; member = h.2; is = refl }, λ j a i t. h.3 t.block (below at t.block (omega (arith, t.is))) (less t.block b (omega (arith, t.is))) t.member)
-
-    pub strided_past : (b : ℕ) → NextLink 64 (Member set) (first at) (Some b) → end ≤ s * b + o → NextLink end (Strided set s o) at None
-    strided_past b h l j a i t = h.3 t.block (below at t.block (omega (arith, t.is))) (less t.block b (omega (arith, t.is))) t.member
+    -- the lowest block gives the lowest number, if that lies below the end
+    pub strided_some : (b : ℕ) → NextLink 64 (Member set) (first at) (Some b) → NextLink end (Strided set s o) at (then_some (nat_lt (s * b + o) end) (s * b + o))
+    strided_some b h =
+        ⊎_elim
+        (λ (l : s * b + o < end).
+        rw (lt-ltb (s * b + o) end l)
+        (above at b h.0, l, record { block = b; member = h.2; is = refl }, λ j a i t. h.3 t.block (below at t.block (omega (arith, t.is))) (less t.block b (omega (arith, t.is))) t.member))
+        (λ (l : end ≤ s * b + o).
+        rw (le-ltb (s * b + o) end l) (λ j a i t. h.3 t.block (below at t.block (omega (arith, t.is))) (less t.block b (omega (arith, t.is))) t.member))
+        (cases_lt (s * b + o) end)

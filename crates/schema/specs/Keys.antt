@@ -1,14 +1,14 @@
 -- The descriptions that decide what is empty, and how the code finds it. For inner contracts: no call's promise
 -- rests on it.
-use Rattle.std.specs.Prelude.{◌≡◌, ℕ, ◌+◌, ◌-◌, ◌/◌, ◌%◌, ◌<◌, ◌≤◌, true, false, cond, ◌⊎◌, List, Some, None, Option, ◌==◌, nat_lt, slice_index, slice_index_or}
-use Rattle.search.specs.Leads.{Leads}
+use Rattle.std.specs.Prelude.{◌≡◌, ℕ, ◌+◌, ◌-◌, ◌*◌, ◌/◌, ◌%◌, ◌<◌, ◌≤◌, true, false, cond, ◌⊎◌, List, Some, None, Option, ◌==◌, nat_lt, slice_index, slice_index_or}
+use Rattle.search.specs.Leads.{Leads, Joined}
 use Rattle.schema.specs.declared.row.Row.{Row}
 use Rattle.schema.specs.declared.arrows.Arrows.{Arrows}
 use Rattle.schema.specs.declared.descriptions.Descriptions.{Descriptions}
 use Rattle.schema.specs.declared.keys.KeyLinks.{KeyLinks}
 use Rattle.schema.specs.declared.keys.Keys.{Keys}
 use Rattle.schema.specs.declared.keys.Reach.{Reach}
-use Rattle.schema.specs.Points.{Built}
+use Rattle.schema.specs.Points.{supers_of, needs_of, counts_of, Built}
 use Rattle.schema.specs.Masks.{Member, Gathers, Meet}
 use Rattle.schema.specs.Verdicts.{Bit, Tells}
 use Rattle.schema.specs.Points.{point, Placed, count}
@@ -56,7 +56,7 @@ pub record TornBy (points : Row → Option (ℕ × ℕ)) (rows : List Row) (firs
 -- the classes that cannot share a thing with the class of an X row, or of a K row, by what the rows need
 pub data Rival (w : Descriptions) (r : Row) (b : ℕ) : Type 0 where
   apart : r.letter ≡ 88 → b ≡ r.b → Rival w r b
-  needs_more : r.letter ≡ 75 → r.n < count w.counts b r.b → Rival w r b
+  needs_more : r.letter ≡ 75 → r.n < count (counts_of w.classes) b r.b → Rival w r b
 
 -- the rivals of each class, by the rows
 pub record RivalSets (w : Descriptions) (rows : List Row) (sets : List ℕ) : Type 0 where
@@ -72,12 +72,12 @@ pub record TornSets (sets : List ℕ) (classes : ℕ) : Type 0 where
 
 -- an end that a key links to: a class by a need, an end by an arrow that its arrow lies in
 pub data ForwardEnd (w : KeyLinks) (i e : ℕ) : Type 0 where
-  by_need : i < 64 → Member (slice_index w.links.needs i) e → ForwardEnd w i e
-  by_arrow : 64 ≤ i → i % 2 ≡ e % 2 → e < 64 → Member (slice_index w.links.overs ((i - 64) / 2)) (e / 2) → ForwardEnd w i e
+  by_need : i < 64 → Member (slice_index (needs_of w.links.classes) i) e → ForwardEnd w i e
+  by_arrow : 64 ≤ i → i % 2 ≡ e % 2 → e < 64 → Member (slice_index w.links.arrows.overs ((i - 64) / 2)) (e / 2) → ForwardEnd w i e
 
 -- a link between keys
 pub data Forward (w : KeyLinks) (i j : ℕ) : Type 0 where
-  class_class : i < 64 → j < 64 → Member (slice_index w.links.supers i) j → Forward w i j
+  class_class : i < 64 → j < 64 → Member (slice_index (supers_of w.links.classes) i) j → Forward w i j
   end_class : 64 ≤ i → i < 128 → j < 64 → Member (slice_index w.links.domains (i - 64)) j → Forward w i j
   to_an_end : i < 128 → 64 ≤ j → j < 128 → ForwardEnd w i (j - 64) → Forward w i j
 
@@ -108,6 +108,12 @@ pub record KeyBuilt (rows : List Row) (w : KeyLinks) : Type 0 where
   pub links : Built rows w.links
   pub rivals : RivalSets w.links rows w.rivals
   pub broken : Gathers (ArrowTorn rows) 32 w.broken
+
+-- where the web of keys leads from a key, and whether what it leads to clashes
+pub record Studied (w : KeyLinks) (k : ℕ) (r : Reach) : Type 0 where
+  pub to_classes : Gathers (λ a. Leads (Joined 128 (Forward w)) k a) 64 r.classes
+  pub to_ends : Gathers (λ e. Leads (Joined 128 (Forward w)) k (64 + e)) 64 r.ends
+  pub tears : Tells r.torn (TornSets w.rivals r.classes ⊎ ((64 ≤ k) × Member w.broken ((k - 64) / 2)))
 
 -- what is known of a key
 pub record Known (rows : List Row) (k : ℕ) (r : Reach) : Type 0 where

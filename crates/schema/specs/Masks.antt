@@ -1,5 +1,5 @@
 -- Sets of numbers below 64 as the bits of a word. For inner contracts: no call's promise rests on it.
-use Rattle.std.specs.Prelude.{◌≡◌, ℕ, ◌+◌, ◌*◌, ◌<◌, min, ◌⊎◌, Some, None, Option}
+use Rattle.std.specs.Prelude.{◌≡◌, ℕ, ◌+◌, ◌*◌, ◌<◌, Bool, true, false, min, ◌⊎◌, Some, None, Option}
 use Rattle.std.specs.Int.{bit_at}
 
 -- the bit at place k of m is set
@@ -36,6 +36,12 @@ abbrev pub Lower : Option ℕ → Option ℕ → Option ℕ → Type 0
 Lower None two r = r ≡ two
 Lower (Some x) None r = r ≡ Some x
 Lower (Some x) (Some y) r = r ≡ Some (min x y)
+
+-- the members are numbers below n of which a test says yes, and of the other numbers below n it says no
+pub record Passes (Says : ℕ → Bool → Type 0) (n m : ℕ) : Type 0 where
+  pub small : (k : ℕ) → Member m k → k < n
+  pub yes : (k : ℕ) → Member m k → Says k true
+  pub no : (k : ℕ) → k < n → Member m k ⊎ Says k false
 
 -- the members are the numbers below n of which a fact holds
 pub record Gathers (Fact : ℕ → Type 0) (n m : ℕ) : Type 0 where

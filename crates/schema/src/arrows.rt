@@ -1,8 +1,9 @@
 //! The web of arrows, and the arrows that lead to two that clash.
-ghost use Rattle.std.specs.Prelude.{◌≡◌, ℕ, ◌<◌, ◌≤◌, length};
+ghost use Rattle.std.specs.Prelude.{◌<◌};
 ghost use Rattle.schema.specs.Masks.{Gathers};
 ghost use Rattle.schema.specs.Points.{Told};
 ghost use Rattle.schema.specs.Keys.{Across, ArrowTorn};
+ghost use Rattle.schema.specs.Verdicts.{Tells};
 ghost use Rattle.std.proofs.Common.{rules};
 
 use crate::clashes::torn;
@@ -15,7 +16,7 @@ use search::web::Web;
 pub(crate) const ARROWS: usize = 32;
 
 /// The arrows that each arrow lies in.
-#[derive(Drop)]
+#[derive(Clone, Copy)]
 pub(crate) struct Arrows {
     pub(crate) overs: [Set64; 32],
 }
@@ -44,13 +45,15 @@ pub(crate) fn torn_arrows(sheet: &SoundSheet, arrows: &Arrows) -> Set64
     requires { Told 80 arrows.now.overs sheet.now.rows.items }
     ensures { Gathers (ArrowTorn sheet.now.rows.items) 32 result }
 {
-    let mut found = Set64::EMPTY;
-    // by number, since a set names arrows and is no list
-    for arrow in 0..ARROWS {
-        let marks: [u8; ARROWS] = marks_from(arrows, arrow);
-        if torn::<Arrows>(sheet, &marks, &marks) {
-            found.insert(arrow);
-        }
-    }
-    found
+    Set64::of_those(ARROWS, |arrow| is_torn(sheet, arrows, arrow))
+}
+
+// Whether an arrow leads to two that clash.
+fn is_torn(sheet: &SoundSheet, arrows: &Arrows, arrow: usize) -> bool
+    requires told { Told 80 arrows.now.overs sheet.now.rows.items }
+    requires known { arrow < 32 }
+    ensures { Tells result (ArrowTorn sheet.now.rows.items arrow) }
+{
+    let marks: [u8; ARROWS] = marks_from(arrows, arrow);
+    torn::<Arrows>(sheet, &marks, &marks)
 }

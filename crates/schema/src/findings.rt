@@ -46,8 +46,7 @@ impl Findings<'_> {
         ensures { result ≡ schema.now.sheet.rows.items }
     {
         let web = Descriptions::of(&schema.sheet);
-        let overs = web.overs;
-        let arrows = Arrows { overs };
+        let arrows = web.arrows;
         let empty = empty_keys(schema);
         Findings {
             schema,

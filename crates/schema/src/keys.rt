@@ -4,16 +4,12 @@
 //! on an arrow that no other leads to, so a class needs them there by a row of its own. What is empty is what point
 //! 128 leads to in a web that goes backwards: from 128 to each key that leads to two that clash, from a key to each
 //! that leads to it, and between the two ends of an arrow.
-ghost use Rattle.std.specs.Prelude.{◌≡◌, ℕ, ◌-◌, ◌/◌, ◌<◌, ◌≤◌, ◌⊎◌, List, length, slice_index};
-ghost use Rattle.search.specs.Leads.{NextLink};
-ghost use Rattle.schema.specs.Masks.{Member, Gathers};
-ghost use Rattle.schema.specs.Rows.{AllSound};
-ghost use Rattle.schema.specs.declared.row.Row.{Row as RowMeaning};
-ghost use Rattle.schema.specs.Keys.{Forward, ForwardEnd, Backward, EmptyKeys, TornSets, KeyBuilt, Known, Surveyed};
-ghost use Rattle.schema.specs.Verdicts.{NoSharedCap, Tells};
+ghost use Rattle.std.specs.Prelude.{◌≡◌, ◌+◌, ◌-◌, ◌*◌, ◌/◌, ◌<◌};
+ghost use Rattle.schema.specs.Keys.{Forward, Backward, EmptyKeys, KeyBuilt, Studied, Surveyed};
+ghost use Rattle.schema.specs.Verdicts.{Tells};
 ghost use Rattle.std.proofs.Common.{rules};
 
-use crate::arrows::{Arrows, torn_arrows};
+use crate::arrows::torn_arrows;
 use crate::descriptions::Descriptions;
 use crate::marking::marks_from;
 use crate::rivals::{list_rivals, torn_sets};
@@ -21,6 +17,7 @@ use crate::schema::Schema;
 use crate::set64::Set64;
 use crate::sound_sheet::SoundSheet;
 use search::web::Web;
+use std::array;
 
 /// How many keys there are; the point of the same number leads to those that clash.
 // A key is a plain number, as the search wants it: an enum would only be made from it where each test now stands.
@@ -48,14 +45,22 @@ impl Web for KeyLinks {
     }
 
     fn next_link(&self, from: usize, at: usize) -> Option<usize> {
-        if from >= KEYS || at >= KEYS {
-            return None;
-        }
-        if let Some(class) = self.classes_of(from).next_from(at) {
+        let classes = match from {
+            0..=63 => self.links.classes[from].supers,
+            64..=127 => self.links.domains[from - 64],
+            _ => return None,
+        };
+        if let Some(class) = classes.next_from(at) {
             return Some(class);
         }
-        let end = self.next_end(from, at.saturating_sub(64))?;
-        Some(64 + end)
+        // the ends come after the 64 classes
+        let low = at.saturating_sub(64);
+        let end = if from < 64 {
+            self.links.classes[from].needs.next_from(low)
+        } else {
+            self.links.arrows.overs[(from - 64) / 2].next_strided::<2>(from % 2, low, 64)
+        };
+        Some(64 + end?)
     }
 }
 
@@ -66,8 +71,7 @@ impl KeyLinks {
     {
         let links = Descriptions::of(sheet);
         let rivals = list_rivals(sheet, &links);
-        let arrows = Arrows { overs: links.overs };
-        let broken = torn_arrows(sheet, &arrows);
+        let broken = torn_arrows(sheet, &links.arrows);
         KeyLinks {
             links,
             rivals,
@@ -75,53 +79,19 @@ impl KeyLinks {
         }
     }
 
-    // What a key leads to, and whether it is torn.
+    // What a key leads to, and whether it is torn: two of its classes clash, or it is an end of a broken arrow.
     fn study(&self, key: usize) -> Reach
         requires { key < 128 }
-        ensures { (rows : List RowMeaning) → AllSound 64 32 rows → NoSharedCap rows → KeyBuilt rows self.now → Known rows key result }
+        ensures { Studied self.now key result }
     {
         let marks: [u8; KEYS] = marks_from(self, key);
-        let classes = marked(&marks[0..64]);
-        let ends = marked(&marks[64..KEYS]);
-        let torn = self.tears(key, classes);
+        let classes = Set64::of_those(64, |class| marks[class] == 1);
+        let ends = Set64::of_those(64, |end| marks[64 + end] == 1);
+        let torn = torn_sets(&self.rivals, classes) || key >= 64 && self.broken.has((key - 64) / 2);
         Reach {
             classes,
             ends,
             torn,
-        }
-    }
-
-    // Whether two of the classes clash, or the key is an end of one of the broken arrows.
-    fn tears(&self, key: usize, classes: Set64) -> bool
-        requires { key < 128 }
-        ensures { Tells result (TornSets self.now.rivals classes ⊎ ((64 ≤ key) × Member self.now.broken ((key - 64) / 2))) }
-    {
-        torn_sets(&self.rivals, classes) || key >= 64 && self.broken.has((key - 64) / 2)
-    }
-
-    // The classes that a key links to.
-    fn classes_of(&self, from: usize) -> Set64
-        requires { from < 128 }
-        ensures class { from < 64 → result ≡ slice_index self.now.links.supers from }
-        ensures end { 64 ≤ from → result ≡ slice_index self.now.links.domains (from - 64) }
-    {
-        if from < 64 {
-            self.links.supers[from]
-        } else {
-            self.links.domains[from - 64]
-        }
-    }
-
-    // The lowest end from `at` on that a key links to.
-    fn next_end(&self, from: usize, at: usize) -> Option<usize>
-        requires known { from < 128 }
-        requires low { at < 64 }
-        ensures { NextLink 64 (ForwardEnd self.now from) at result }
-    {
-        if from < 64 {
-            self.links.needs[from].next_from(at)
-        } else {
-            self.links.overs[(from - 64) / 2].next_strided::<2>(from % 2, at, 64)
         }
     }
 }
@@ -165,16 +135,9 @@ impl Keys {
         ensures { Surveyed schema.now.sheet.rows.items 128 result }
     {
         let web = KeyLinks::of(&schema.sheet);
-        let mut reaches = [Reach {
-            classes: Set64::EMPTY,
-            ends: Set64::EMPTY,
-            torn: false,
-        }; KEYS];
-        // a loop, since the closure of array::from_fn would need the clauses of study once more
-        for key in 0..KEYS {
-            reaches[key] = web.study(key);
+        Keys {
+            reaches: array::from_fn(|key| web.study(key)),
         }
-        Keys { reaches }
     }
 
     // Whether a link leads backward from one point to a key.
@@ -197,18 +160,4 @@ pub(crate) fn empty_keys(schema: &Schema) -> [u8; 129]
     ensures { EmptyKeys schema.now.sheet.rows.items result }
 {
     marks_from(&Keys::survey(schema), KEYS)
-}
-
-// The set of the x for which byte x is 1.
-fn marked(marks: &[u8]) -> Set64
-    requires { length marks.now ≤ 64 }
-    ensures { Gathers (λ x. slice_index marks.now x ≡ 1) (length marks.now) result }
-{
-    let mut found = Set64::EMPTY;
-    for (x, mark) in marks.iter().enumerate() {
-        if *mark == 1 {
-            found.insert(x);
-        }
-    }
-    found
 }

@@ -1,7 +1,7 @@
 //! The classes that clash with each class, by an X or a K row.
-ghost use Rattle.std.specs.Prelude.{ℕ, ◌<◌};
+ghost use Rattle.std.specs.Prelude.{◌<◌};
 ghost use Rattle.schema.specs.Masks.{Gathers};
-ghost use Rattle.schema.specs.Points.{count};
+ghost use Rattle.schema.specs.Points.{count, counts_of};
 ghost use Rattle.schema.specs.Keys.{RivalSets, TornSets};
 ghost use Rattle.schema.specs.Verdicts.{Tells};
 
@@ -11,6 +11,7 @@ use crate::sound_sheet::SoundSheet;
 
 /// Lists for each class those whose members cannot be in it: one by an X row, and by a K row all that need more than
 /// the cap.
+#[tactic(auto, using(crate::proofs::RowBounds::row_bounds))]
 pub(crate) fn list_rivals(sheet: &SoundSheet, links: &Descriptions) -> [Set64; 64]
     ensures { RivalSets links.now sheet.now.rows.items result }
 {
@@ -30,15 +31,15 @@ pub(crate) fn list_rivals(sheet: &SoundSheet, links: &Descriptions) -> [Set64; 6
 
 fn needing_more(links: &Descriptions, end: usize, cap: u16) -> Set64
     requires { end < 64 }
-    ensures { Gathers (λ a. cap < count links.now.counts a end) 64 result }
+    ensures { Gathers (λ a. cap < count (counts_of links.now.classes) a end) 64 result }
 {
-    let mut found = Set64::EMPTY;
-    for (class, counts) in links.counts.iter().enumerate() {
-        if counts[end] > cap {
-            found.insert(class);
-        }
-    }
-    found
+    let classes = &links.classes;
+    Set64::of_those(
+        64,
+        |a|
+            requires { (a < 64) × (end < 64) }
+        { classes[a].counts[end] > cap },
+    )
 }
 
 /// Whether a class and one of its rivals are both in a set of classes.

@@ -1,7 +1,7 @@
 //! Sets of numbers below 64, as the bits of a word.
 ghost use Rattle.std.specs.Prelude.{◌≡◌, ℕ, ◌*◌, ◌<◌, ◌≤◌};
 ghost use Rattle.search.specs.Leads.{NextLink};
-ghost use Rattle.schema.specs.Masks.{Member, Joins, Meet, Strided, Unites};
+ghost use Rattle.schema.specs.Masks.{Member, Joins, Meet, Passes, Strided, Unites};
 ghost use Rattle.schema.specs.Verdicts.{Tells};
 
 use std::marker::Model;
@@ -24,7 +24,23 @@ impl Set64 {
     /// The set with no member.
     pub(crate) const EMPTY: Set64 = Set64 { bits: 0 };
 
-    /// Adds a member. Loops gather sets by it: to collect one would take a FromIterator with the loops' proof in it.
+    /// The set of the numbers below `end` that pass a test.
+    pub(crate) fn of_those<F: Fn(usize) -> bool>(end: usize, test: F) -> Set64
+        requires few { end ≤ 64 }
+        requires callable { (k : ℕ) → k < end → F.pre test k }
+        ensures { Passes (F.post test) end result }
+    {
+        let mut found = Set64::EMPTY;
+        // a loop, since neither from_iter nor the closure of a fold knows that its numbers are below 64
+        for k in 0..end {
+            if test(k) {
+                found.insert(k);
+            }
+        }
+        found
+    }
+
+    /// Adds a member.
     pub(crate) fn insert(&mut self, k: usize)
         requires { k < 64 }
         ensures { Joins self.old k self.new }
@@ -59,7 +75,7 @@ impl Set64 {
         let rest = self.bits >> from;
         // as, since a usize has no From<u32>
         let found = from + rest.trailing_zeros() as usize;
-        if found < 64 { Some(found) } else { None }
+        (found < 64).then_some(found)
     }
 
     /// Whether the sets have a member in common.
@@ -78,12 +94,14 @@ impl Set64 {
     ) -> Option<usize>
         requires within { offset < STRIDE }
         requires few { STRIDE ≤ 64 }
-        requires low { at < end }
         requires known { end ≤ STRIDE * 64 }
         ensures { NextLink end (Strided self STRIDE offset) at result }
     {
+        if at >= end {
+            return None;
+        }
         let first = (at + (STRIDE - 1 - offset)) / STRIDE;
         let found = STRIDE * self.next_from(first)? + offset;
-        if found < end { Some(found) } else { None }
+        (found < end).then_some(found)
     }
 }

@@ -1,12 +1,12 @@
 use Rattle.std.proofs.Common.{◌≡◌, ℕ, ◌<◌, List, [], ◌∷◌, ◌++◌, length, get_or, take, sym, ap, ◌∙◌, subst, inl, inr, ⊎_elim, arith}
-use Rattle.std.proofs.lemmas.List.Elements.{Contains-get_or}
 use Rattle.std.proofs.lemmas.List.{get_or_default, take_more}
 use Rattle.schema.specs.declared.descriptions.Descriptions.{Descriptions}
 use Rattle.schema.specs.declared.row.Row.{Row}
 use Rattle.schema.specs.Masks.{Member, Unites, Gathers}
-use Rattle.schema.specs.Points.{count}
+use Rattle.schema.specs.Points.{count, counts_of}
 use Rattle.schema.specs.Keys.{Rival, apart, needs_more, RivalSets}
 use Rattle.schema.proofs.Building.{fits_at, joins_at}
+use Rattle.std.proofs.lemmas.List.Elements.{Contains-get_or}
 use Rattle.schema.proofs.Rivalry.{rivals_none, rivals_other, rivals_more}
 use Rattle.schema.proofs.rivals.list_rivals.Goals as goal
 use Rattle.schema.proofs.rivals.list_rivals.Goals.{in-88, in-75, in_default}
@@ -20,7 +20,7 @@ only_x : (w : Descriptions) (r : Row) (b : ℕ) → r.letter ≡ 88 → Rival w 
 only_x w r b x (apart e q) = q
 only_x w r b x (needs_more e q) = absurd (omega arith)
 
-only_k : (w : Descriptions) (r : Row) (b : ℕ) → r.letter ≡ 75 → Rival w r b → r.n < count w.counts b r.b
+only_k : (w : Descriptions) (r : Row) (b : ℕ) → r.letter ≡ 75 → Rival w r b → r.n < count (counts_of w.classes) b r.b
 only_k w r b x (apart e q) = absurd (omega arith)
 only_k w r b x (needs_more e q) = q
 
@@ -28,27 +28,8 @@ only_k w r b x (needs_more e q) = q
 unites_at : (sets : List ℕ) (a x d n v : ℕ) → a ≡ x → x < length sets → Unites (get_or sets a d) n v → Unites (get_or sets x 0) n v
 unites_at sets a x d n v p w u = subst (λ (m : ℕ). Unites m n v) (ap (λ (i : ℕ). get_or sets i d) p ∙ get_or_default sets x d 0 w) u
 
-needing_at : (w : Descriptions) (e x cap set : ℕ) → e ≡ x → Gathers (λ a. cap < count w.counts a e) 64 set → Gathers (λ a. cap < count w.counts a x) 64 set
-needing_at w e x cap set p g = subst (λ (i : ℕ). Gathers (λ a. cap < count w.counts a i) 64 set) p g
-
--- each row that has rivals is between classes, or between a class and an end
-pub bounds-rivals-a : goal.bounds-rivals-a
-bounds-rivals-a c = let f = fits_at _ 88 c.in-88.is (c.rows-row-items.ensures.sound _ (Contains-get_or c.rows-row-items.result.now c.loop-row.row-index _ c.loop-row-test.true)) in omega (arith, f.0, c.from-a.ensures)
-
-pub insert-requires : goal.insert-requires
-insert-requires c = let f = fits_at _ 88 c.in-88.is (c.rows-row-items.ensures.sound _ (Contains-get_or c.rows-row-items.result.now c.loop-row.row-index _ c.loop-row-test.true)) in omega (arith, f.1, c.from-b.ensures)
-
-pub bounds-rivals-a-in-75 : goal.bounds-rivals-a-in-75
-bounds-rivals-a-in-75 c = let f = fits_at _ 75 c.in-75.is (c.rows-row-items.ensures.sound _ (Contains-get_or c.rows-row-items.result.now c.loop-row.row-index _ c.loop-row-test.true)) in omega (arith, f.0, c.from-a.ensures)
-
-pub needing_more-requires : goal.needing_more-requires
-needing_more-requires c = let f = fits_at _ 75 c.in-75.is (c.rows-row-items.ensures.sound _ (Contains-get_or c.rows-row-items.result.now c.loop-row.row-index _ c.loop-row-test.true)) in omega (arith, f.1, c.from-b.ensures)
-
-pub listed : goal.listed
-listed c = omega (arith, bounds-rivals-a c)
-
-pub listed-in-75 : goal.listed-in-75
-listed-in-75 c = omega (arith, bounds-rivals-a-in-75 c)
+needing_at : (w : Descriptions) (e x cap set : ℕ) → e ≡ x → Gathers (λ a. cap < count (counts_of w.classes) a e) 64 set → Gathers (λ a. cap < count (counts_of w.classes) a x) 64 set
+needing_at w e x cap set p g = subst (λ (i : ℕ). Gathers (λ a. cap < count (counts_of w.classes) a i) 64 set) p g
 
 pub loop-row-init : goal.loop-row-init
 loop-row-init c = rivals_none c.args.links.now

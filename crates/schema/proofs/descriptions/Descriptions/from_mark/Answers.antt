@@ -10,7 +10,7 @@ use Rattle.schema.proofs.descriptions.Descriptions.from_mark.Goals.{then-times-e
 
 module _ (w : Descriptions) (x m : ℕ) where
   abbrev Along : ℕ → Type 0
-  Along = Strided (get_or w.overs (x / 2) 0) 64 (32 * (x % 2) + m)
+  Along = Strided (get_or w.arrows.overs (x / 2) 0) 64 (32 * (x % 2) + m)
 
   abbrev Domain : ℕ → Type 0
   Domain = Strided (get_or w.domains x 0) 32 0
@@ -37,7 +37,7 @@ returns c =
     let first = c.next_strided-along.result in
     let lower : (o : Option ℕ) → _ ≡ o → Lower first o c.lower.result = λ o e. subst (λ (p : Option ℕ). Lower first p c.lower.result) e c.lower.ensures in
     let here : NextLink 2048 (Along w x m) c.args.at first =
-    subst (λ (s : ℕ). NextLink 2048 (Strided s 64 (32 * (x % 2) + m)) c.args.at first) (get_or_default w.overs (x / 2) c.index-self-end.result 0 (omega arith))
+    subst (λ (s : ℕ). NextLink 2048 (Strided s 64 (32 * (x % 2) + m)) c.args.at first) (get_or_default w.arrows.overs (x / 2) c.index-self-end.result 0 (omega arith))
     c.next_strided-along.ensures in
     elim c.if-times-eq1.branch [
       | then-times-eq1 v ↦

@@ -1,15 +1,21 @@
-use Rattle.std.proofs.Common.{◌≡◌, ℕ, get_or, take, drop, subst, arith, length-take, length-drop}
-use Rattle.schema.specs.Masks.{Gathers}
-use Rattle.schema.proofs.Studied.{key_known}
+use Rattle.std.proofs.Common.{◌≡◌, ℕ, ◌+◌, Bool, get_or, nat_eq, sym, subst, rules, arith}
+use Rattle.search.specs.Leads.{Leads, Joined}
+use Rattle.schema.specs.Keys.{Forward}
+use Rattle.schema.specs.Verdicts.{Tells}
+use Rattle.schema.proofs.Gather.{passes_gathers}
+use Rattle.schema.proofs.Signs.{tells_bit}
 use Rattle.schema.proofs.keys.KeyLinks.study.Goals as goal
 
 pub returns : goal.returns
-returns c rows sound uncapped built =
+returns c =
     let marks = c.marks_from-marks.result in
-    let first = take 64 marks in
-    let last = take 64 (drop 64 marks) in
-    key_known rows c.args.self.now built sound uncapped c.args.key c.requires marks c.marks_from-marks.ensures
-    (record { classes = c.marked-classes.result; ends = c.marked-ends.result; torn = c.tears-torn.result })
-    (subst (λ (n : ℕ). Gathers (λ x. get_or first x 0 ≡ 1) n c.marked-classes.result) (omega (arith, length-take 64 marks)) c.marked-classes.ensures)
-    (subst (λ (n : ℕ). Gathers (λ x. get_or last x 0 ≡ 1) n c.marked-ends.result) (omega (arith, length-take 64 (drop 64 marks), length-drop 64 marks)) c.marked-ends.ensures)
-    c.tears-torn.ensures
+    let Reached : ℕ → Type 0 = Leads (Joined 128 (Forward c.args.self.now)) c.args.key in
+    record {
+      to_classes = passes_gathers c.of_those-classes.ensures (λ a l b s.
+          let e : b ≡ nat_eq (get_or marks a 0) 1 = search rules in
+          subst (λ (t : Bool). Tells t (Reached a)) (sym e) (tells_bit (get_or marks a 0) (c.marks_from-marks.ensures a (omega arith))));
+      to_ends = passes_gathers c.of_those-ends.ensures (λ a l b s.
+          let e : b ≡ nat_eq (get_or marks (64 + a) 0) 1 = search rules in
+          subst (λ (t : Bool). Tells t (Reached (64 + a))) (sym e) (tells_bit (get_or marks (64 + a) 0) (c.marks_from-marks.ensures (64 + a) (omega arith))));
+      tears = search rules;
+    }

@@ -1,7 +1,8 @@
-use Rattle.std.proofs.Common.{◌≡◌, ℕ, ◌+◌, ◌-◌, ◌/◌, ◌^◌, ◌<◌, ◌≤◌, Some, None, sym, ap, ◌∙◌, subst, ⊎_elim, rules, arith}
+use Rattle.std.proofs.Common.{◌≡◌, ℕ, ◌+◌, ◌-◌, ◌/◌, ◌^◌, ◌<◌, ◌≤◌, Some, nat_lt, sym, ap, ◌∙◌, subst, ⊎_elim, rules, arith}
+use Rattle.std.specs.Bool.{then_some}
 use lib.Count.{count_trailing_zeros, trailing_of_zero}
 use Rattle.std.proofs.Math.Nat.{div-le_self}
-use Rattle.std.proofs.lemmas.Bool.{cases_eq}
+use Rattle.std.proofs.lemmas.Bool.{cases_eq, cases_lt, lt-ltb, le-ltb}
 use Rattle.std.proofs.lemmas.Nat.Bits.{bit_at-trailing_zeros}
 use Rattle.std.specs.Int.{w64, bit_at}
 use Rattle.search.specs.Leads.{NextLink}
@@ -44,11 +45,15 @@ module _ (m from : ℕ) (fits : m < 2 ^ 64) where
   some : from + zeros < 64 → NextLink 64 (Member m) from (Some (from + zeros))
   some h = (omega arith, h, here (omega arith), before)
 
-pub returns-then-found-lt64 : goal.returns-then-found-lt64
-returns-then-found-lt64 c =
-    subst (λ (x : ℕ). NextLink 64 (Member x) c.args.from (Some (c.args.from + count_trailing_zeros 64 (c.self.inside.bits / 2 ^ c.args.from)))) c.self.view_is
-    (some c.self.inside.bits c.args.from (search rules) c.if-found-lt64.true)
+  -- the first set bit of what is left, if there is one
+  first : NextLink 64 (Member m) from (then_some (nat_lt (from + zeros) 64) (from + zeros))
+  first =
+      ⊎_elim
+      (λ (h : from + zeros < 64). rw (lt-ltb (from + zeros) 64 h) (some h))
+      (λ (h : 64 ≤ from + zeros). rw (le-ltb (from + zeros) 64 h) (λ j l i e. before j l (omega arith) e))
+      (cases_lt (from + zeros) 64)
 
-pub returns-else-found-lt64 : goal.returns-else-found-lt64
-returns-else-found-lt64 c =
-    subst (λ (x : ℕ). NextLink 64 (Member x) c.args.from None) c.self.view_is (λ k l h e. before c.self.inside.bits c.args.from (search rules) k l (omega arith) e)
+pub returns : goal.returns
+returns c =
+    subst (λ (x : ℕ). NextLink 64 (Member x) c.args.from c.then_some.result) c.self.view_is
+    (subst (NextLink 64 (Member c.self.inside.bits) c.args.from) (sym c.then_some.ensures) (first c.self.inside.bits c.args.from (search rules)))
