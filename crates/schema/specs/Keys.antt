@@ -1,6 +1,6 @@
 -- The descriptions that decide what is empty, and how the code finds it. For inner contracts: no call's promise
 -- rests on it.
-use Rattle.std.specs.Prelude.{◌≡◌, ℕ, ◌+◌, ◌-◌, ◌*◌, ◌/◌, ◌%◌, ◌<◌, ◌≤◌, true, false, cond, ◌⊎◌, List, Some, None, Option, ◌==◌, nat_lt, slice_index, slice_index_or}
+use Rattle.std.specs.Prelude.{◌≡◌, ℕ, ◌+◌, ◌-◌, ◌/◌, ◌%◌, ◌<◌, ◌≤◌, true, false, cond, ◌⊎◌, List, Some, None, Option, ◌==◌, nat_lt, slice_index, slice_index_or}
 use Rattle.search.specs.Leads.{Leads, Joined}
 use Rattle.schema.specs.declared.row.Row.{Row}
 use Rattle.schema.specs.declared.arrows.Arrows.{Arrows}
