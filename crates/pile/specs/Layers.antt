@@ -2,7 +2,7 @@
 --   LayerEntered  what entering a row answers, and the layer after it
 --   is_own        whether a call is one that only such a layer has
 --   OwnCall       what such a call answers, and the layer after it
-use Rattle.std.specs.Prelude.{◌≡◌, ◌<◌, ◌≤◌, Bool, true, false, [], ◌∷◌, length, Ok, Err, Result}
+use Rattle.std.specs.Prelude.{◌≡◌, Bool, true, false, [], ◌∷◌, Ok, Err, Result}
 use Rattle.schema.specs.declared.row.Row.{Row}
 use Rattle.schema.specs.declared.faults.EnterFault.{EnterFault}
 use Rattle.schema.specs.Sheets.{Shown, Takes}
