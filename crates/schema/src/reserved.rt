@@ -2,7 +2,7 @@
 ghost use Rattle.std.specs.Borrow.{sem, LendsIf};
 ghost use Rattle.std.specs.Vec.{with_item};
 ghost use Rattle.std.specs.List.{ItemMut};
-ghost use Rattle.std.specs.Prelude.{◌≡◌, ◌<◌, ◌≤◌, ◌⊎◌, [], ◌∷◌, ◌++◌, length, vec_len, vec_capacity, insert, remove, IfOk, MatchOption, MatchResult};
+ghost use Rattle.std.specs.Prelude.{◌≡◌, ◌<◌, ◌≤◌, ◌⊎◌, [], ◌∷◌, ◌++◌, length, vec_len, vec_capacity, insert, remove, IfOk, MatchOption, MatchResult, slice_index_or};
 
 use std::alloc::{AllocError, Global};
 
@@ -71,7 +71,7 @@ impl<T: Drop, const N: usize> Reserved<T, N> {
 
     /// Takes item k out, where there is one.
     pub fn remove(&mut self, k: usize) -> Option<T>
-        ensures { MatchOption result ((length self.old.list.items ≤ k) × (self.new ≡ self.old)) (λ x. (k < length self.old.list.items) × (self.new.list.items ≡ remove self.old.list.items k)) }
+        ensures { MatchOption result ((length self.old.list.items ≤ k) × (self.new ≡ self.old)) (λ x. (k < length self.old.list.items) × (x ≡ slice_index_or self.old.list.items k x) × (self.new.list.items ≡ remove self.old.list.items k)) }
     {
         if k >= self.list.len() {
             return None;

@@ -67,7 +67,8 @@ impl Layer for OwnRows {
         if self.len(below) >= self.capacity(below) {
             return Err(EnterFault::Full);
         }
-        self.own.push(row).map_err(|_| EnterFault::Full)
+        self.own.push(row).unwrap();
+        Ok(())
     }
 
     fn own_call<S: Sheet>(layered: &mut Trial<S>, call: Call) -> Result<Answer, Call> {

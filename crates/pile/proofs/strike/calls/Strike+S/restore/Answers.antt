@@ -1,5 +1,5 @@
 use Rattle.std.proofs.Common.{◌≡◌, ℕ, ◌<◌, ◌≤◌, length, Option, Some, None, MatchOption, refl, ap, ◌∙◌, arith}
-use Rattle.std.specs.Prelude.{remove}
+use Rattle.std.specs.Prelude.{remove, slice_index_or}
 use Rattle.schema.specs.declared.reserved.Reserved.{Reserved}
 use Rattle.pile.specs.Standing.{rises}
 use Rattle.pile.specs.Strikes.{struck_rows}
@@ -8,10 +8,10 @@ use Rattle.pile.proofs.strike.calls.Strike+S.restore.Goals as goal
 
 -- what is left where there is an item to take out
 left : {n : ℕ} (r : Option ℕ) (old new : Reserved ℕ n) (at : ℕ) → at < length old.list.items
-    → MatchOption r ((length old.list.items ≤ at) × (new ≡ old)) (λ x. (at < length old.list.items) × (new.list.items ≡ remove old.list.items at))
+    → MatchOption r ((length old.list.items ≤ at) × (new ≡ old)) (λ x. (at < length old.list.items) × (x ≡ slice_index_or old.list.items at x) × (new.list.items ≡ remove old.list.items at))
     → new.list.items ≡ remove old.list.items at
 left None old new at l h = absurd (let z : ⊥ = omega (arith, h.0) in z)
-left (Some x) old new at l h = h.1
+left (Some x) old new at l h = h.2
 
 pub returns-in_default-clause-restored : goal.returns-in_default-clause-restored
 returns-in_default-clause-restored g c =
