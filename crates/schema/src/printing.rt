@@ -10,6 +10,8 @@ use crate::lines::Line;
 // The place goes beside the bytes: a writer would borrow them, and each contract would have to tell what it gives back.
 
 /// Writes a line from `at` on.
+// Inlined, since of a line with a name only one number has to be worked out.
+#[inline(always)]
 pub(crate) fn put_line(bytes: &mut [u8], at: usize, parts: Line)
     requires { at + 14 ≤ length bytes.old }
     ensures { bytes.new ≡ spliced at (line parts.letter parts.a parts.b parts.n) bytes.old }
