@@ -2,7 +2,6 @@
 use Rattle.std.proofs.Common.{◌≡◌, ℕ, zero, suc, ◌-◌, ◌*◌, ◌/◌, ◌^◌, ◌<◌, ◌≤◌, Bool, true, false, eqb, List, ◌++◌, length, get_or, take, drop, sym, refl, ap, ◌∙◌, pow-suc, arith, take-suc, Option, Some, None, Result, ok_or, MatchOption, MatchResult, ◌≢◌}
 use Rattle.std.proofs.lemmas.List.{same_from_push, take-append-drop}
 use Rattle.std.proofs.lemmas.Bool.{eqb-true, eqb-false}
-use Rattle.schema.specs.declared.columns.Stray.{Stray}
 use Rattle.schema.specs.Texts.{group}
 use Rattle.schema.specs.Columns.{mark, Strays, Group}
 
@@ -110,7 +109,7 @@ module _ {bytes : List ℕ} (long : 4 ≤ length bytes) {j v : ℕ} (here : j < 
       }
 
   -- a column, as it was read
-  pub group_step : (o : Option ℕ) (e : Stray) {r : Result ℕ Stray} → r ≡ ok_or o e
+  pub group_step : {E : Type 0} (o : Option ℕ) (e : E) {r : Result ℕ E} → r ≡ ok_or o e
       → MatchOption o ((x : ℕ) → x / 10 ≡ v → get_or bytes j 0 ≢ mark (eqb j 3) x) (λ x. (get_or bytes j 0 ≡ mark (eqb j 3) x) × (x / 10 ≡ v))
       → MatchResult r (Begun bytes (suc j)) (λ f. (f ≡ e) × Strays Group bytes j)
   group_step None e is bad = rw is (refl, begun_strays bad)

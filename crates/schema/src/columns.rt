@@ -3,23 +3,28 @@ ghost use Rattle.std.specs.Prelude.{◌≡◌, ℕ, ◌+◌, ◌/◌, ◌<◌, �
 ghost use Rattle.schema.specs.Texts.{group};
 ghost use Rattle.schema.specs.Columns.{mark, Strays, Group};
 
-/// The first column, from 1, at which no line in form begins alike.
-#[derive(Clone, Copy)]
-pub(crate) struct Stray {
-    pub column: u16,
-}
+use crate::faults::ColumnFault;
 
 /// The number in four columns, the first of which is `column`.
 // By hand, since `parse` reads text, which the bytes may not be, and tells no column.
-pub(crate) fn read_group(bytes: [u8; 4], column: u16) -> Result<u16, Stray>
+pub(crate) fn read_group(bytes: [u8; 4], line: u16, column: u16) -> Result<u16, ColumnFault>
     requires { (length bytes ≡ 4) × (column ≤ 14) }
-    ensures { MatchResult result (λ v. (v ≤ 9999) × (bytes ≡ group v)) (λ e. (j : ℕ) × (j < 4) × (e.column ≡ column + j) × Strays Group bytes j) }
+    ensures { MatchResult result (λ v. (v ≤ 9999) × (bytes ≡ group v)) (λ e. (j : ℕ) × (j < 4) × (e ≡ record { line = line; column = column + j }) × Strays Group bytes j) }
 {
     let [b0, b1, b2, b3] = bytes;
-    let thousands = blank_or_digit(b0, 0).ok_or(Stray { column })?;
-    let hundreds = blank_or_digit(b1, thousands).ok_or(Stray { column: column + 1 })?;
-    let tens = blank_or_digit(b2, hundreds).ok_or(Stray { column: column + 2 })?;
-    digit(b3, tens).ok_or(Stray { column: column + 3 })
+    let thousands = blank_or_digit(b0, 0).ok_or(ColumnFault { line, column })?;
+    let hundreds = blank_or_digit(b1, thousands).ok_or(ColumnFault {
+        line,
+        column: column + 1,
+    })?;
+    let tens = blank_or_digit(b2, hundreds).ok_or(ColumnFault {
+        line,
+        column: column + 2,
+    })?;
+    digit(b3, tens).ok_or(ColumnFault {
+        line,
+        column: column + 3,
+    })
 }
 
 // A column before the last: a blank while only blanks have come, which say 0, and then a digit.

@@ -6,7 +6,7 @@ ghost use Rattle.schema.specs.Texts.{Header as HeaderLetter};
 ghost use Rattle.schema.specs.Columns.{head_line, LineStrays, LineFaulty};
 ghost use Rattle.schema.specs.declared.faults.LineFault.TheVariants.{Form};
 
-use crate::columns::{Stray, read_group};
+use crate::columns::read_group;
 use crate::counts::Counts;
 use crate::faults::{ColumnFault, LineFault};
 use crate::letters::unsound_field;
@@ -46,7 +46,7 @@ pub(crate) fn header_line(bytes: &[u8]) -> Result<Header, LineFault>
     requires { length bytes.now ≡ 14 }
     ensures { MatchResult result (λ h. (h.classes ≤ 9999) × (h.arrows ≤ 9999) × (h.rows ≤ 9999) × (bytes.now ≡ head_line h.classes h.arrows h.rows)) (λ e. (k : ℕ) × (e ≡ Form (record { line = 1; column = k })) × BadColumn HeaderLetter bytes.now k) }
 {
-    let parts = read_line(bytes, 1, |letter| letter == b'H')?;
+    let parts = read_line(bytes, 1, |letter| matches!(letter, b'H'))?;
     Ok(Header {
         classes: parts.a,
         arrows: parts.b,
@@ -78,35 +78,33 @@ fn begins_row(letter: u8) -> bool
     matches!(letter, b'S' | b'X' | b'D' | b'F' | b'K' | b'P' | b'Q')
 }
 
-// A line in form, with a letter that may begin it.
+// A line in form, with a letter that may begin it. It is taken apart as the project's rules want: letter, first group's
+// bytes, rest.
 fn read_line<F: Fn(u8) -> bool>(bytes: &[u8], number: u16, begins: F) -> Result<Line, ColumnFault>
     requires callable { F.IsAlwaysCallable begins }
     requires long { length bytes.now ≡ 14 }
     ensures { MatchResult result (λ l. F.post begins l.letter true × (bytes.now ≡ line l.letter l.a l.b l.n)) (λ e. (e.line ≡ number) × LineStrays (F.post begins) bytes.now e.column) }
 {
-    read_parts(bytes, begins).map_err(|stray| ColumnFault {
-        line: number,
-        column: stray.column,
-    })
-}
-
-// The parts of a line, or the first column that is out of form.
-fn read_parts<F: Fn(u8) -> bool>(bytes: &[u8], begins: F) -> Result<Line, Stray>
-    requires callable { F.IsAlwaysCallable begins }
-    requires long { length bytes.now ≡ 14 }
-    ensures { MatchResult result (λ l. F.post begins l.letter true × (bytes.now ≡ line l.letter l.a l.b l.n)) (λ e. LineStrays (F.post begins) bytes.now e.column) }
-{
-    let [letter, a0, a1, a2, a3, b0, b1, b2, b3, n0, n1, n2, n3, feed] = bytes else {
+    let [letter, a0, a1, a2, a3, rest @ ..] = bytes else {
+        unreachable()
+    };
+    let [b0, b1, b2, b3, n0, n1, n2, n3, feed] = rest else {
         unreachable()
     };
     if !begins(*letter) {
-        return Err(Stray { column: LETTER });
+        return Err(ColumnFault {
+            line: number,
+            column: LETTER,
+        });
     }
-    let a = read_group([*a0, *a1, *a2, *a3], FIRST)?;
-    let b = read_group([*b0, *b1, *b2, *b3], SECOND)?;
-    let n = read_group([*n0, *n1, *n2, *n3], THIRD)?;
+    let a = read_group([*a0, *a1, *a2, *a3], number, FIRST)?;
+    let b = read_group([*b0, *b1, *b2, *b3], number, SECOND)?;
+    let n = read_group([*n0, *n1, *n2, *n3], number, THIRD)?;
     if *feed != b'\n' {
-        return Err(Stray { column: FEED });
+        return Err(ColumnFault {
+            line: number,
+            column: FEED,
+        });
     }
     Ok(Line {
         letter: *letter,

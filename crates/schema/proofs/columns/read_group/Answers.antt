@@ -1,4 +1,4 @@
-use Rattle.std.proofs.Common.{◌≤◌, ◌++◌, length, refl, ap, ◌∙◌, arith}
+use Rattle.std.proofs.Common.{◌≤◌, ◌++◌, length, refl, ap, ◌∙◌, add-zero, arith}
 use Rattle.std.proofs.lemmas.List.{drop_all}
 use Rattle.std.proofs.lemmas.Result.{err_from_is_err_and, MatchResult-weaker}
 use Rattle.schema.specs.Texts.{group}
@@ -10,7 +10,7 @@ returns-in_err-thousands c =
     let long : 4 ≤ length c.args.bytes = omega arith in
     let p = err_from_is_err_and c.from_residual.result c.from_residual.ensures.1 in
     let (is, strays) = group_step long (omega arith) (begun_none c.args.bytes) _ _ c.in_err-thousands.ensures.value c.blank_or_digit.ensures in
-    rw (p.1, p.2, is) (0, omega arith, omega arith, strays)
+    rw (p.1, p.2, is) (0, omega arith, rw add-zero refl, strays)
 
 pub returns-in_err-hundreds : goal.returns-in_err-hundreds
 returns-in_err-hundreds c =
@@ -38,4 +38,4 @@ returns c =
     let three = group_step long (omega arith) two _ _ c.in_ok-tens.ensures.value c.blank_or_digit-3.ensures in
     MatchResult-weaker c.ok_or-4.result (group_step long (omega arith) three _ _ c.ok_or-4.ensures.value c.digit.ensures)
     (λ v begun. let w = begun_whole c.args.bytes v begun in (w.0, w.1 ∙ ap (λ l. group v ++ l) none))
-    (λ e s. (3, omega arith, ap (λ f. f.column) s.0, s.1))
+    (λ e s. (3, omega arith, s.0, s.1))
