@@ -1,20 +1,18 @@
 -- What is found out for a question. For inner contracts: no call's promise rests on it.
 use Rattle.std.specs.Prelude.{◌≡◌, ℕ, ◌<◌, Bool, List, slice_index_or}
 use Rattle.schema.specs.declared.row.Row.{Row}
-use Rattle.schema.specs.declared.arrows.Arrows.{Arrows}
 use Rattle.schema.specs.declared.descriptions.Descriptions.{Descriptions}
 use Rattle.schema.specs.Rows.{AllSound}
 use Rattle.schema.specs.Rules.{Rule, row}
-use Rattle.schema.specs.Points.{point, Told, Built}
+use Rattle.schema.specs.Points.{point, Built}
 use Rattle.schema.specs.Keys.{keyed, EmptyKeys}
 use Rattle.schema.specs.Verdicts.{Tells}
 use Rattle.schema.specs.Questions.{Yes}
 
--- the webs of sound rows, and the keys that are empty
-pub record Found (rows : List Row) (web : Descriptions) (arrows : Arrows) (empty : List ℕ) : Type 0 where
+-- the web of sound rows, and the keys that are empty
+pub record Found (rows : List Row) (web : Descriptions) (empty : List ℕ) : Type 0 where
   pub sound : AllSound 64 32 rows
   pub links : Built rows web
-  pub overs : Told 80 arrows.overs rows
   pub keys : EmptyKeys rows empty
 
 -- a key that is empty is marked

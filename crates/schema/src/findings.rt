@@ -18,13 +18,12 @@ use crate::marking::marks_from;
 use crate::schema::Schema;
 use std::marker::Model;
 
-/// The webs of a schema, and a byte for each key, 1 if it is empty, as the search wrote them. A contract sees the rows
+/// The web of a schema, and a byte for each key, 1 if it is empty, as the search wrote them. A contract sees the rows
 /// that they tell of.
 #[derive(Drop)]
 pub(crate) struct Findings<'a> {
     schema: &'a Schema,
     web: Descriptions,
-    arrows: Arrows,
     empty: [u8; 129],
 }
 
@@ -37,7 +36,7 @@ impl<'a> Model for Findings<'a> {
 
     ghost view = { λ f. f.schema.now.sheet.rows.items };
 
-    ghost invariant = { λ f. Found f.schema.now.sheet.rows.items f.web f.arrows f.empty };
+    ghost invariant = { λ f. Found f.schema.now.sheet.rows.items f.web f.empty };
 }
 
 impl Findings<'_> {
@@ -46,14 +45,8 @@ impl Findings<'_> {
         ensures { result ≡ schema.now.sheet.rows.items }
     {
         let web = Descriptions::of(&schema.sheet);
-        let arrows = web.arrows;
         let empty = empty_keys(schema);
-        Findings {
-            schema,
-            web,
-            arrows,
-            empty,
-        }
+        Findings { schema, web, empty }
     }
 
     /// Whether one description is empty or leads to another.
@@ -80,7 +73,7 @@ impl Findings<'_> {
         requires { (from < 32) × (to < 32) }
         ensures { Tells result (EmptyArrow self.now from ⊎ Leads (ArrowLink self.now) from to) }
     {
-        let marks: [u8; ARROWS] = marks_from(&self.arrows, from);
+        let marks: [u8; ARROWS] = marks_from(&self.web.arrows, from);
         self.empty[64 + 2 * from] == 1 || marks[to] == 1
     }
 
@@ -102,8 +95,8 @@ impl Findings<'_> {
     fn arrows_clash(&self, one: usize, two: usize) -> bool
         ensures { Tells result (Clashing (ArrowLink self.now) (ArrowApart self.now) one two) }
     {
-        let first: [u8; ARROWS] = marks_from(&self.arrows, one);
-        let second: [u8; ARROWS] = marks_from(&self.arrows, two);
+        let first: [u8; ARROWS] = marks_from(&self.web.arrows, one);
+        let second: [u8; ARROWS] = marks_from(&self.web.arrows, two);
         torn::<Arrows>(&self.schema.sheet, &first, &second)
     }
 

@@ -29,4 +29,4 @@ returns-else-self-from-eq1 c =
     tells_second _ (Leads (ArrowLink rows) p c.args.to)
     (λ z. c.if-self-from-eq1.false (bit_holds (arrow_bit rows it.empty b p c.requires.0 refl found.keys) z))
     (tells_bit (get_or marks c.args.to 0)
-    (arrow_reaches rows it.arrows found.overs sound p marks c.marks_from-marks.ensures c.args.to c.requires.1))
+    (arrow_reaches rows it.web.arrows found.links.overs sound p marks c.marks_from-marks.ensures c.args.to c.requires.1))
