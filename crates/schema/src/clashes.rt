@@ -15,7 +15,8 @@ use crate::sound_sheet::SoundSheet;
 pub(crate) trait Clashes {
     ghost apart: { RowMeaning → Option (ℕ × ℕ) };
 
-    /// The two points that a row sets apart.
+    /// The two points that a row sets apart. Here and in a question a sound row is a plain one that is known to be sound: a
+    /// type of sound rows would be made of each `Row` that a sheet lends.
     fn apart(row: Row) -> Option<(usize, usize)>
         requires { Sound 64 32 row }
         ensures { result ≡ apart row };

@@ -6,7 +6,8 @@ ghost use Rattle.schema.specs.Columns.{mark, Strays, Group};
 use crate::faults::ColumnFault;
 
 /// The number in four columns, the first of which is `column`.
-// By hand, since `parse` reads text, which the bytes may not be, and tells no column.
+// By hand, since `parse` reads text, which the bytes may not be, and tells no column. Line and column come apart, since a
+// fault is made only where a column is wrong.
 pub(crate) fn read_group(bytes: [u8; 4], line: u16, column: u16) -> Result<u16, ColumnFault>
     requires { (length bytes ≡ 4) × (column ≤ 14) }
     ensures { MatchResult result (λ v. (v ≤ 9999) × (bytes ≡ group v)) (λ e. (j : ℕ) × (j < 4) × (e ≡ record { line = line; column = column + j }) × Strays Group bytes j) }
