@@ -61,14 +61,12 @@ fn replay(rt: &HostRuntime, script: Script) -> anyhow::Result<()> {
         Lowest::Book(classes, arrows) => {
             let mut book = Book::new(rt.alloc())?;
             rt.println(Outcome(book.set_up(classes, arrows)))?;
-            let classes = usize::from(book.classes());
-            play::<Strike<Trial<Trial<Book>>>>(rt, book, classes, steps, titles)
+            play::<Strike<Trial<Trial<Book>>>>(rt, book, steps, titles)
         }
         Lowest::Text(text) => {
             rt.println(Outcome(check_text(text.as_slice())))?;
             let sheet = TextSheet::new(text.as_slice());
-            let classes = usize::from(sheet.classes());
-            play::<Strike<Trial<Trial<Base<TextSheet>>>>>(rt, sheet, classes, steps, titles)
+            play::<Strike<Trial<Trial<Base<TextSheet>>>>>(rt, sheet, steps, titles)
         }
     }
 }
@@ -77,10 +75,10 @@ fn replay(rt: &HostRuntime, script: Script) -> anyhow::Result<()> {
 fn play<P: Pile + Drop>(
     rt: &HostRuntime,
     lowest: P::Lowest,
-    classes: usize,
     steps: Vec<Request>,
     titles: Vec<String>,
 ) -> anyhow::Result<()> {
+    let classes = usize::from(lowest.classes());
     let (_pile, answers) = live::<P>(rt.alloc(), lowest, steps)?;
     for (title, answer) in titles.iter().zip(answers.iter()) {
         let told = Told { answer, classes };

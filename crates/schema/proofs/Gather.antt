@@ -1,14 +1,14 @@
 -- A set that a loop gathers.
 use Rattle.std.proofs.Common.{◌≡◌, ℕ, ◌+◌, ◌<◌, ◌≤◌, Bool, true, false, refl, sym, subst, inl, inr, ⊎_elim, not-suc-le-zero, arith}
 use Rattle.std.proofs.lemmas.Bool.{cases_lt}
-use Rattle.schema.specs.Masks.{Member, Joins, Passes, Gathers}
+use Rattle.schema.specs.Masks.{Member, Joins, Chosen, Gathers}
 use Rattle.schema.specs.Verdicts.{Tells}
 use Rattle.schema.proofs.Bits.{member_zero}
 
 module _ {Says : ℕ → Bool → Type 0} where
   -- at first nothing has passed
-  pub passes_none : Passes Says 0 0
-  passes_none =
+  pub chosen_none : Chosen Says 0 0
+  chosen_none =
       record {
         small = λ k m. absurd (member_zero 0 k refl m);
         yes = λ k m. absurd (member_zero 0 k refl m);
@@ -16,8 +16,8 @@ module _ {Says : ℕ → Bool → Type 0} where
       }
 
   -- one more number that passes
-  pub passes_more : {n m r : ℕ} → Passes Says n m → Says n true → Joins m n r → Passes Says (n + 1) r
-  passes_more {n} {m} {r} p s j =
+  pub chosen_more : {n m r : ℕ} → Chosen Says n m → Says n true → Joins m n r → Chosen Says (n + 1) r
+  chosen_more {n} {m} {r} p s j =
       record {
         small = λ k h. ⊎_elim (λ (o : Member m k). let l : k < n = p.small k o in omega arith) (λ (e : k ≡ n). omega arith) (j.only k h);
         yes = λ k h. ⊎_elim (λ (o : Member m k). p.yes k o) (λ (e : k ≡ n). subst (λ (i : ℕ). Says i true) (sym e) s) (j.only k h);
@@ -26,8 +26,8 @@ module _ {Says : ℕ → Bool → Type 0} where
       }
 
   -- one more that does not
-  pub passes_past : {n m : ℕ} → Passes Says n m → Says n false → Passes Says (n + 1) m
-  passes_past {n} {m} p s =
+  pub chosen_past : {n m : ℕ} → Chosen Says n m → Says n false → Chosen Says (n + 1) m
+  chosen_past {n} {m} p s =
       record {
         small = λ k h. let l : k < n = p.small k h in omega arith;
         yes = p.yes;
@@ -35,8 +35,8 @@ module _ {Says : ℕ → Bool → Type 0} where
       }
 
   -- the numbers that pass a test that tells of a fact
-  pub passes_gathers : {Fact : ℕ → Type 0} {n m : ℕ} → Passes Says n m → ((k : ℕ) → k < n → (b : Bool) → Says k b → Tells b (Fact k)) → Gathers Fact n m
-  passes_gathers p tells =
+  pub chosen_gathers : {Fact : ℕ → Type 0} {n m : ℕ} → Chosen Says n m → ((k : ℕ) → k < n → (b : Bool) → Says k b → Tells b (Fact k)) → Gathers Fact n m
+  chosen_gathers p tells =
       record {
         small = p.small;
         only = λ k h. tells k (p.small k h) true (p.yes k h);

@@ -38,7 +38,7 @@ Lower (Some x) None r = r ≡ Some x
 Lower (Some x) (Some y) r = r ≡ Some (min x y)
 
 -- the members are numbers below n of which a test says yes, and of the other numbers below n it says no
-pub record Passes (Says : ℕ → Bool → Type 0) (n m : ℕ) : Type 0 where
+pub record Chosen (Says : ℕ → Bool → Type 0) (n m : ℕ) : Type 0 where
   pub small : (k : ℕ) → Member m k → k < n
   pub yes : (k : ℕ) → Member m k → Says k true
   pub no : (k : ℕ) → k < n → Member m k ⊎ Says k false

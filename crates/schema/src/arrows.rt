@@ -18,7 +18,7 @@ pub(crate) const ARROWS: usize = 32;
 /// The arrows that each arrow lies in.
 #[derive(Clone, Copy)]
 pub(crate) struct Arrows {
-    pub(crate) overs: [Set64; 32],
+    pub(crate) overs: [Set64; ARROWS],
 }
 
 impl Web for Arrows {
@@ -48,7 +48,7 @@ pub(crate) fn torn_arrows(sheet: &SoundSheet, arrows: &Arrows) -> Set64
     Set64::of_those(ARROWS, |arrow| is_torn(sheet, arrows, arrow))
 }
 
-// Whether an arrow leads to two that clash.
+// Whether an arrow leads to two that clash. An arrow is a plain number, as the search wants it.
 fn is_torn(sheet: &SoundSheet, arrows: &Arrows, arrow: usize) -> bool
     requires told { Told 80 arrows.now.overs sheet.now.rows.items }
     requires known { arrow < 32 }

@@ -15,8 +15,9 @@ use crate::sound_sheet::SoundSheet;
 pub(crate) trait Clashes {
     ghost apart: { RowMeaning → Option (ℕ × ℕ) };
 
-    /// The two points that a row sets apart. Here and in a question a sound row is a plain one that is known to be sound: a
-    /// type of sound rows would be made of each `Row` that a sheet lends.
+    // Here and in a question a sound row is a `Row` that is known to be sound: a type of sound rows would be made of each
+    // row that a sheet lends.
+    /// The two points that a row sets apart.
     fn apart(row: Row) -> Option<(usize, usize)>
         requires { Sound 64 32 row }
         ensures { result ≡ apart row };
@@ -77,5 +78,6 @@ fn both_marked<W: Clashes>(row: Row, first: &[u8], second: &[u8]) -> bool
 fn is_marked(marks: &[u8], point: usize) -> bool
     ensures { Tells result (slice_index marks.now point ≡ 1) }
 {
+    // a byte, as the search writes it
     marks.get(point) == Some(&1)
 }

@@ -158,7 +158,7 @@ pub enum ReprintFault {
     ShortBuffer,
 }
 
-// By hand, since `#[from]` states no `from_gives` and the callers' contracts name the fault.
+// From one fault to another by hand, ten times, since `#[from]` states no `from_gives` and the callers' contracts name the fault.
 impl From<ColumnFault> for LineFault {
     ghost from_gives = { λ x r. r ≡ Form x };
 

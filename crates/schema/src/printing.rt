@@ -7,7 +7,8 @@ ghost use Rattle.schema.specs.Reports.{name_lines};
 use crate::limits::LINE_BYTES;
 use crate::lines::Line;
 
-// The place goes beside the bytes: a writer would borrow them, and each contract would have to tell what it gives back.
+// The place goes beside the bytes. A writer that holds both would borrow the bytes, and each contract would have to tell
+// what comes back of them.
 
 /// Writes a line from `at` on.
 // Inlined, since of a line with a name only one number has to be worked out.

@@ -1,12 +1,13 @@
 //! Sets of numbers below 64, as the bits of a word.
 ghost use Rattle.std.specs.Prelude.{◌≡◌, ℕ, ◌*◌, ◌<◌, ◌≤◌};
 ghost use Rattle.search.specs.Leads.{NextLink};
-ghost use Rattle.schema.specs.Masks.{Member, Joins, Meet, Passes, Strided, Unites};
+ghost use Rattle.schema.specs.Masks.{Member, Joins, Meet, Chosen, Strided, Unites};
 ghost use Rattle.schema.specs.Verdicts.{Tells};
 
 use std::marker::Model;
 
 /// A set of numbers below 64.
+// They are plain numbers, since rows, ranges and shifts make them, and a type of them would be made anew at each.
 #[derive(Clone, Copy)]
 pub(crate) struct Set64 {
     bits: u64,
@@ -28,7 +29,7 @@ impl Set64 {
     pub(crate) fn of_those<F: Fn(usize) -> bool>(end: usize, test: F) -> Set64
         requires few { end ≤ 64 }
         requires callable { (k : ℕ) → k < end → F.pre test k }
-        ensures { Passes (F.post test) end result }
+        ensures { Chosen (F.post test) end result }
     {
         let mut found = Set64::EMPTY;
         // a loop, since neither from_iter nor the closure of a fold knows that its numbers are below 64
@@ -73,7 +74,7 @@ impl Set64 {
             return None;
         }
         let rest = self.bits >> from;
-        // as, since a usize has no From<u32>
+        // a cast, since a usize has no From<u32>
         let found = from + rest.trailing_zeros() as usize;
         (found < 64).then_some(found)
     }
