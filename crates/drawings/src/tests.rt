@@ -45,6 +45,25 @@ fn each_drawing(rt: HostRuntime) -> Result<(), Fail> {
     Ok(())
 }
 
+// Arrow 2, to which two arrows lead, has a cap.
+#[test]
+fn three_arrows(rt: HostRuntime) {
+    let rows = b"H   4   3   6\nP   0   2   0\nP   1   2   0\nQ   0   1   0\n\
+        F   0   0   1\nF   0   2   1\nK   0   4   1\n";
+    let mut table = [7; 7];
+    let fault = VerdictFault::Check(CheckFault::Capped { row: 5 });
+    assert_eq!(rt; verdict(&TextSheet::new(rows), &mut table), Err(fault));
+    assert_eq!(rt;
+        Notice::from(fault),
+        Notice {
+            number: 17,
+            first: 5,
+            second: 0,
+        }
+    );
+    assert_eq!(rt; table, [7; 7]);
+}
+
 // 512 rows are judged, and one more is too many.
 #[test]
 fn most_rows(rt: HostRuntime) -> Result<(), Fail> {
