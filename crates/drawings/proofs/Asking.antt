@@ -7,7 +7,7 @@ use Rattle.schema.specs.Questions.{Yes}
 use Rattle.schema.specs.Asked.{Uncountable}
 use Rattle.drawings.specs.declared.told.Told.{Told}
 use Rattle.drawings.specs.Drawings.{yes, no, refused}
-use Rattle.drawings.proofs.Evidence.{done, ◌▹◌, Because, derived, broken, uncountable, Answers}
+use Rattle.drawings.proofs.Evidence.{has, done, ◌▹◌, Because, derived, broken, uncountable, Answers}
 use Rattle.drawings.proofs.Passing.{sound, sound_is, alone, passing, passes}
 use Rattle.drawings.proofs.Worlds.{no_zero, only_one, having, having_some, having_few}
 use Rattle.drawings.proofs.Listing.{apart_0}
@@ -24,8 +24,8 @@ raised = F 0 0 2 ∷ P 0 1 ∷ []
 raised_way : Yes (map row raised) (F 0 2 1)
 raised_way =
     inr
-    (go (by_F {e = 0} {n = 2} (inl refl))
-    (go (down {m = 2} {k = 1} (omega arith) (omega arith)) (go (by_P {e = 0} {f = 2} (inr (inl refl)) refl) stay)))
+    (go (by_F {e = 0} {n = 2} (has raised 0 (F 0 0 2) refl))
+    (go (down {m = 2} {k = 1} (omega arith) (omega arith)) (go (by_P {e = 0} {f = 2} (has raised 1 (P 0 1) refl) refl) stay)))
 
 pub raised_once : Answers raised (F 0 2 1) yes
 raised_once = answers refl refl (derived (λ l. absurd (omega arith)) raised_way)
@@ -39,21 +39,24 @@ raised_thrice =
 
 -- arrow 0 leads to arrow 1, so nothing counts there
 raised_count : Uncountable (map row raised) (row (F 0 2 2))
-raised_count = (0, 2, 2, refl, omega arith, λ alone. let q : ◌≡◌ {A = ℕ} 0 1 = alone 0 (go (inr (inl refl)) stay) in omega arith)
+raised_count = (0, 2, 2, refl, omega arith, λ alone. let q : ◌≡◌ {A = ℕ} 0 1 = alone 0 (go (has raised 1 (P 0 1) refl) stay) in omega arith)
 
 pub raised_twice : Answers raised (F 0 2 2) (refused 20 0 0)
 raised_twice = answers refl refl (uncountable raised_count)
 
 -- the tails of two arrows are in classes that are apart
-tails_apart : Yes (map row (D 0 0 ∷ D 2 1 ∷ X 0 1 ∷ [])) (Q 0 1)
+abbrev under_apart : List Rule
+under_apart = D 0 0 ∷ D 2 1 ∷ X 0 1 ∷ []
+
+tails_apart : Yes (map row under_apart) (Q 0 1)
 tails_apart =
     inr
     (inr
     (inr
     (inl
-    (cls 0, cls 1, go (by_D (inl refl)) stay, go (by_D (inr (inl refl))) stay, inl (by_X (inr (inr (inl refl))))))))
+    (cls 0, cls 1, go (by_D (has under_apart 0 (D 0 0) refl)) stay, go (by_D (has under_apart 1 (D 2 1) refl)) stay, inl (by_X (has under_apart 2 (X 0 1) refl))))))
 
-pub tails : Answers (D 0 0 ∷ D 2 1 ∷ X 0 1 ∷ []) (Q 0 1) yes
+pub tails : Answers under_apart (Q 0 1) yes
 tails = answers refl refl (derived tt tails_apart)
 
 pub not_tails : Answers (D 0 0 ∷ D 2 1 ∷ Q 0 1 ∷ []) (X 0 1) no

@@ -1,5 +1,5 @@
 -- What shows that a drawing's answer is right, once for every drawing.
-use Rattle.std.proofs.Common.{◌≡◌, ℕ, zero, suc, ◌+◌, true, false, List, [], ◌∷◌, map, length, get_or, Option, Some, None, sym, subst, inl, inr}
+use Rattle.std.proofs.Common.{◌≡◌, ℕ, zero, suc, ◌+◌, true, false, List, [], ◌∷◌, map, length, get_or, Option, Some, None, subst, inl, inr}
 use Rattle.std.specs.List.{slice_get}
 use Rattle.schema.specs.declared.row.Row.{Row}
 use Rattle.schema.specs.Refusals.{notice}
@@ -15,6 +15,8 @@ use Rattle.schema.proofs.theory.Telling.{row_injective}
 use Rattle.drawings.specs.declared.told.Told.{Told}
 use Rattle.drawings.specs.declared.told.Told.TheVariants.{Table, Answer, Refusal}
 use Rattle.drawings.specs.Drawings.{Drawing, asked_row}
+use Rattle.schema.proofs.Members.{nth_∈}
+use Rattle.drawings.proofs.Membership.{here, there, nowhere, here_or_there}
 
 -- a fact of each of a list, one after the other
 infixr 5 ◌▹◌
@@ -24,15 +26,21 @@ pub data Each {A : Type 0} (P : A → Type 0) : List A → Type 0 where
 
 -- it holds of any one
 pub of_one : {A : Type 0} (P : A → Type 0) (xs : List A) → Each P xs → (x : A) → x ∈ xs → P x
-of_one P [] done x m = absurd m
-of_one P (y ∷ ys) (h ▹ hs) x (inl e) = subst P (sym e) h
-of_one P (y ∷ ys) (h ▹ hs) x (inr m) = of_one P ys hs x m
+of_one P [] done x m = absurd (nowhere x m)
+of_one P (y ∷ ys) (h ▹ hs) x m = elim (here_or_there ys m) [ inl e ↦ subst P e h | inr n ↦ of_one P ys hs x n ]
 
 -- a row of some rules is the row of one of them
 written : (rules : List Rule) (ρ : Rule) → Has (map row rules) ρ → ρ ∈ rules
-written [] ρ m = absurd m
-written (σ ∷ rules) ρ (inl e) = inl (row_injective ρ σ e)
-written (σ ∷ rules) ρ (inr m) = inr (written rules ρ m)
+written [] ρ m = absurd (nowhere (row ρ) m)
+written (σ ∷ rules) ρ m =
+    elim (here_or_there (map row rules) m) [
+      | inl e ↦ here rules (row_injective σ ρ e)
+      | inr n ↦ there rules (written rules ρ n)
+    ]
+
+-- number k of some rules
+pub has : (rules : List Rule) (k : ℕ) (ρ : Rule) → slice_get (map row rules) k ≡ Some (row ρ) → Has (map row rules) ρ
+has rules k ρ e = nth_∈ (row ρ) (map row rules) k e
 
 -- a world that fulfils each rule fulfils the rows
 pub fulfils : (w : World) (rules : List Rule) → Each (Fulfils w) rules → FulfilsAll w (map row rules)

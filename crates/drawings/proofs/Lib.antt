@@ -1,3 +1,4 @@
+pub mod Membership
 pub mod Passing
 pub mod Refusing
 pub mod Evidence
@@ -6,3 +7,4 @@ pub mod Listing
 pub mod Asking
 pub mod Lines
 pub mod Sayings
+pub mod Endless

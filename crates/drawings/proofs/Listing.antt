@@ -1,5 +1,5 @@
 -- What shows the verdict of each drawing that has no question.
-use Rattle.std.proofs.Common.{◌≡◌, ℕ, zero, suc, true, List, [], ◌∷◌, map, ap, ◌∙◌, refl, inl, inr, arith}
+use Rattle.std.proofs.Common.{◌≡◌, ℕ, zero, suc, true, List, [], ◌∷◌, map, ap, ◌∙◌, refl, inl, arith}
 use Rattle.search.specs.Leads.{stay, go}
 use Rattle.schema.specs.declared.row.Row.{Row}
 use Rattle.schema.specs.Rules.{Rule, X, D, F, K, P, Q, row}
@@ -8,7 +8,7 @@ use Rattle.schema.specs.Webs.{cls, mark, by_F, by_D, by_X, by_K, clash, leads, c
 use Rattle.schema.specs.Questions.{EmptyDescription}
 use Rattle.schema.specs.Verdicts.{CapsShared, EachBelow}
 use Rattle.drawings.specs.Drawings.{bytes, empty, refused}
-use Rattle.drawings.proofs.Evidence.{Each, done, ◌▹◌, ClassMark, ArrowMark, FirstCap, Judges, sorted, capped}
+use Rattle.drawings.proofs.Evidence.{has, Each, done, ◌▹◌, ClassMark, ArrowMark, FirstCap, Judges, sorted, capped}
 use Rattle.drawings.proofs.Passing.{fine, passing, passes}
 use Rattle.drawings.proofs.Worlds.{everything, no_zero, only_one, by_length, having, endless, no_head, one_class, no_class, having_some, having_few, endless_some, endless_one}
 
@@ -28,7 +28,7 @@ no_rows = filled [] everything (λ k. tt) refl done (([], [], tt), ([], [], tt))
 
 -- nothing is in class 0
 pub apart_0 : EmptyClass (map row (X 0 0 ∷ [])) 0
-apart_0 = clash (cls 0, cls 0, stay, stay, inl (by_X (inl refl)))
+apart_0 = clash (cls 0, cls 0, stay, stay, inl (by_X (has (X 0 0 ∷ []) 0 (X 0 0) refl)))
 
 pub apart : Judges (X 0 0 ∷ []) (empty (0 ∷ []) [])
 apart =
@@ -37,7 +37,7 @@ apart =
 
 -- what is in class 0 has an end twice and at most once
 over_0 : EmptyClass (map row (F 0 0 2 ∷ K 0 0 1 ∷ [])) 0
-over_0 = clash (cls 0, mark 0 2, stay, go (by_F (inl refl)) stay, inl (by_K (inr (inl refl)) (omega arith)))
+over_0 = clash (cls 0, mark 0 2, stay, go (by_F (has (F 0 0 2 ∷ K 0 0 1 ∷ []) 0 (F 0 0 2) refl)) stay, inl (by_K (has (F 0 0 2 ∷ K 0 0 1 ∷ []) 1 (K 0 0 1) refl) (omega arith)))
 
 pub over : Judges (F 0 0 2 ∷ K 0 0 1 ∷ []) (empty (0 ∷ []) [])
 over =
@@ -56,13 +56,13 @@ torn = D 1 1 ∷ D 1 2 ∷ X 1 2 ∷ F 0 0 1 ∷ []
 torn_head : EmptyDescription (map row torn) (mark 1 1)
 torn_head =
     clash
-    (cls 1, cls 2, go (by_D (inl refl)) stay, go (by_D (inr (inl refl))) stay, inl (by_X (inr (inr (inl refl)))))
+    (cls 1, cls 2, go (by_D (has torn 0 (D 1 1) refl)) stay, go (by_D (has torn 1 (D 1 2) refl)) stay, inl (by_X (has torn 2 (X 1 2) refl)))
 
 torn_arrow : EmptyArrow (map row torn) 0
 torn_arrow = of_end {e = 1} torn_head
 
 torn_class : EmptyClass (map row torn) 0
-torn_class = leads (go (by_F (inr (inr (inr (inl refl))))) stay) (of_arrow {e = 0} torn_arrow)
+torn_class = leads (go (by_F (has torn 3 (F 0 0 1) refl)) stay) (of_arrow {e = 0} torn_arrow)
 
 torn_fulfilled : Each (Fulfils by_length) torn
 torn_fulfilled =
@@ -76,7 +76,7 @@ torn_apart =
 
 -- a pair of arrow 0 is one of arrow 1, and is not
 parted_0 : EmptyArrow (map row (P 0 1 ∷ Q 0 1 ∷ [])) 0
-parted_0 = clash_arrow (0, 1, stay, go (inl refl) stay, inl (inr (inl refl)))
+parted_0 = clash_arrow (0, 1, stay, go (has (P 0 1 ∷ Q 0 1 ∷ []) 0 (P 0 1) refl) stay, inl (has (P 0 1 ∷ Q 0 1 ∷ []) 1 (Q 0 1) refl))
 
 pub parted : Judges (P 0 1 ∷ Q 0 1 ∷ []) (empty [] (0 ∷ []))
 parted =
@@ -91,7 +91,7 @@ first_cap =
       sound = ok.1;
       caps = row (K 0 2 1);
       at = refl;
-      shared = (0, 2, 1, refl, λ alone. let q : ◌≡◌ {A = ℕ} 0 1 = alone 0 (go (inl refl) stay) in omega arith);
+      shared = (0, 2, 1, refl, λ alone. let q : ◌≡◌ {A = ℕ} 0 1 = alone 0 (go (has (P 0 1 ∷ K 0 2 1 ∷ []) 0 (P 0 1) refl) stay) in omega arith);
       before = before;
     }
   where

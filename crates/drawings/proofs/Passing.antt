@@ -1,5 +1,5 @@
 -- Rows that pass the checks, by a test that is computed.
-use Rattle.std.proofs.Common.{◌≡◌, ℕ, Bool, true, false, not, ◌&&◌, ◌||◌, eqb, ltb, leb, List, [], ◌∷◌, length, Option, Some, None, refl, ap, ◌∙◌, subst, inl, inr, arith}
+use Rattle.std.proofs.Common.{◌≡◌, ℕ, Bool, true, false, not, ◌&&◌, ◌||◌, eqb, ltb, leb, List, [], ◌∷◌, length, Option, Some, None, sym, refl, ap, ◌∙◌, subst, inl, inr, arith}
 use Rattle.std.specs.List.{list_all}
 use Rattle.std.proofs.lemmas.Bool.{and_parts, ltb-true, leb-true, eq-eqb}
 use Rattle.search.specs.Leads.{stay, go}
@@ -9,12 +9,14 @@ use Rattle.schema.specs.Rows.{◌∈◌, shape_of, limit, Fits, Sound, AllSound}
 use Rattle.schema.specs.Rules.{K, P, row, arrow}
 use Rattle.schema.specs.Verdicts.{Small, NoSharedCap, Passes}
 use Rattle.schema.specs.Webs.{Alone}
+use Rattle.drawings.proofs.Membership.{nowhere, here_or_there}
 
 -- a test that holds of all holds of each
 pub each : {A : Type 0} (p : A → Bool) (xs : List A) → list_all p xs ≡ true → (x : A) → x ∈ xs → p x ≡ true
-each p [] h x m = absurd m
-each p (y ∷ ys) h x (inl e) = ap p e ∙ (and_parts (p y) (list_all p ys) h).0
-each p (y ∷ ys) h x (inr m) = each p ys (and_parts (p y) (list_all p ys) h).1 x m
+each p [] h x m = absurd (nowhere x m)
+each p (y ∷ ys) h x m =
+    let t = and_parts (p y) (list_all p ys) h in
+    elim (here_or_there ys m) [ inl e ↦ ap p (sym e) ∙ t.0 | inr n ↦ each p ys t.1 x n ]
 
 -- whether a row is sound for four classes and two arrows
 abbrev fits : Row → Option Shape → Bool

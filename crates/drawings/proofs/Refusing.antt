@@ -1,19 +1,14 @@
 -- Rows that pass the checks have no fault, and rows with a shared cap have one fault alone.
-use Rattle.std.proofs.Common.{◌≡◌, ℕ, zero, suc, ◌<◌, ◌⊎◌, List, [], ◌∷◌, Some, ap, subst, inl, inr, arith}
+use Rattle.std.proofs.Common.{◌≡◌, ℕ, ◌<◌, ◌⊎◌, List, Some, ap, subst, inl, inr, arith}
 use Rattle.std.specs.List.{slice_get}
 use Rattle.std.proofs.lemmas.Bool.{cases_order}
 use Rattle.schema.specs.declared.row.Row.{Row}
 use Rattle.schema.specs.declared.faults.SheetFault.{SheetFault}
 use Rattle.schema.specs.declared.faults.CheckFault.{CheckFault}
 use Rattle.schema.specs.declared.faults.CheckFault.TheVariants.{Capped}
-use Rattle.schema.specs.Rows.{◌∈◌, Sound, Unsound, letter_unsound, a_unsound, b_unsound, n_unsound, AllSound, Fits}
+use Rattle.schema.specs.Rows.{Sound, Unsound, letter_unsound, a_unsound, b_unsound, n_unsound, AllSound, Fits}
 use Rattle.schema.specs.Verdicts.{Small, Passes, CapsShared, EachBelow, SheetFaulty, over_limits, unsound_row, CheckFaulty, sheet_faulty, capped}
-
--- number k of a list is one of it
-pub got : {A : Type 0} (xs : List A) (k : ℕ) (x : A) → slice_get xs k ≡ Some x → x ∈ xs
-got [] k x e = absurd (let z : ⊥ = cc in z)
-got (y ∷ ys) zero x e = inl (let z : x ≡ y = cc in z)
-got (y ∷ ys) (suc k) x e = inr (got ys k x e)
+use Rattle.schema.proofs.Members.{nth_∈}
 
 module _ (c p : ℕ) where
   -- a sound row has no unsound field
@@ -30,7 +25,7 @@ module _ (c p : ℕ) where
     faultless f (over_limits (inl h)) = omega (arith, small.few_classes)
     faultless f (over_limits (inr (inl h))) = omega (arith, small.few_arrows)
     faultless f (over_limits (inr (inr h))) = omega (arith, small.few_rows)
-    faultless f (unsound_row k field r few at before bad) = sound_all r field (sound r (got rows k r at)) bad
+    faultless f (unsound_row k field r few at before bad) = sound_all r field (sound r (nth_∈ r rows k at)) bad
 
     -- its first shared cap is its one fault
     pub only_cap : (k : ℕ) (r : Row) → slice_get rows k ≡ Some r → CapsShared rows r → EachBelow rows k (λ q. CapsShared rows q → ⊥)
@@ -46,4 +41,4 @@ module _ (c p : ℕ) where
   -- rows that pass the checks have no fault
   pub unrefused : (rows : List Row) → Passes c p rows → (f : CheckFault) → CheckFaulty c p rows f → ⊥
   unrefused rows ok f (sheet_faulty g h) = faultless rows ok.small ok.sound g h
-  unrefused rows ok f (capped k r small sound at shared before) = ok.uncapped r (got rows k r at) shared
+  unrefused rows ok f (capped k r small sound at shared before) = ok.uncapped r (nth_∈ r rows k at) shared

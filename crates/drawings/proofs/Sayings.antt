@@ -23,7 +23,8 @@ use Rattle.drawings.specs.declared.told.Told.TheVariants.{Table, Answer, Refusal
 use Rattle.drawings.specs.declared.given.Given.{Given}
 use Rattle.drawings.specs.Drawings.{Drawing, drawings, asked_row, Holds, Draws, comes_of, comes_at, SameLine, IsGiven}
 use Rattle.drawings.proofs.Evidence.{of_one, fulfils, Marks, ClassMark, ArrowMark, Sorted, Judges, sorted, capped, Because, derived, broken, uncountable, Answers, Evidence, unasked, asked}
-use Rattle.drawings.proofs.Refusing.{got, sound_all, only_cap, unrefused}
+use Rattle.drawings.proofs.Refusing.{sound_all, only_cap, unrefused}
+use Rattle.schema.proofs.Members.{nth_∈}
 
 -- a byte that is 1 for what is empty, and for what is empty in every world, is the shown one
 marked : {Empty Everywhere Filled : Type 0} (b c : ℕ) → Marks b Empty Filled → (Filled → Everywhere → ⊥) → Bit c Empty → Bit c Everywhere → c ≡ b
@@ -35,10 +36,10 @@ marked (suc (suc b)) c h never here everywhere = absurd h
 
 -- the numbers of the classes
 four : (k : ℕ) → k < 4 → k ∈ (0 ∷ 1 ∷ 2 ∷ 3 ∷ [])
-four zero l = inl refl
-four (suc zero) l = inr (inl refl)
-four (suc (suc zero)) l = inr (inr (inl refl))
-four (suc (suc (suc zero))) l = inr (inr (inr (inl refl)))
+four zero l = nth_∈ 0 (0 ∷ 1 ∷ 2 ∷ 3 ∷ []) 0 refl
+four (suc zero) l = nth_∈ 1 (0 ∷ 1 ∷ 2 ∷ 3 ∷ []) 1 refl
+four (suc (suc zero)) l = nth_∈ 2 (0 ∷ 1 ∷ 2 ∷ 3 ∷ []) 2 refl
+four (suc (suc (suc zero))) l = nth_∈ 3 (0 ∷ 1 ∷ 2 ∷ 3 ∷ []) 3 refl
 four (suc (suc (suc (suc k)))) l = absurd (omega arith)
 
 module _ (rules : List Rule) where
@@ -74,7 +75,7 @@ module _ (rules : List Rule) where
   -- a verdict that lists
   table_said : (t : Told) → Judges rules t → (before after : List ℕ) (ones : ℕ) → Judged 4 2 (map row rules) before (Ok ones) after → length after ≡ 6 → Table after ≡ t
   table_said t (sorted table w ok long s) before after ones v six = ap Table (table_is table w s long before after ones v six)
-  table_said t (capped k h) before after ones v six = absurd (v.passes.uncapped h.caps (got (map row rules) k h.caps h.at) h.shared)
+  table_said t (capped k h) before after ones v six = absurd (v.passes.uncapped h.caps (nth_∈ h.caps (map row rules) k h.at) h.shared)
 
   -- a verdict that is refused
   fault_said : (t : Told) → Judges rules t → (before after : List ℕ) (f : VerdictFault) → Judged 4 2 (map row rules) before (Err f) after → length before ≡ 6
@@ -145,4 +146,4 @@ drawn s t g line h holds says = on (slice_get drawings line) refl h
   where
     on : (o : Option Drawing) → slice_get drawings line ≡ o → SameLine o (Some g) → Some t ≡ comes_of o
     on None e h = absurd h
-    on (Some d) e h = ap Some (says d (got drawings line d e) (subst (Holds s) h.0 holds) h.1)
+    on (Some d) e h = ap Some (says d (nth_∈ d drawings line e) (subst (Holds s) h.0 holds) h.1)

@@ -5,6 +5,7 @@ use Rattle.schema.specs.Rows.{◌∈◌}
 use Rattle.schema.specs.Rules.{F, K}
 use Rattle.schema.specs.Worlds.{World, Individual, Meets, AtLeast, Fulfils}
 use Rattle.schema.proofs.theory.Counting.{reaches, firsts, firsts_length, firsts_from, firsts_distinct}
+use Rattle.drawings.proofs.Membership.{here}
 
 -- everything is in every class, and every pair belongs to every arrow
 abbrev pub everything : World
@@ -67,7 +68,7 @@ someone w e i s = on s.who s.many s.meeting
   where
     on : (js : List Individual) → length js ≡ 1 → ((j : Individual) → j ∈ js → Meets w e i j) → (j : Individual) × Meets w e i j
     on [] l m = absurd (omega arith)
-    on (j ∷ js) l m = (j, m j (inl refl))
+    on (j ∷ js) l m = (j, m j (here js refl))
 
 -- where arrow 0 has no pair, nothing has its head
 pub no_head : (i : Individual) → AtLeast by_length 1 1 i → ⊥

@@ -3,17 +3,23 @@
 --   empty         the verdict marks these classes and these arrows, and no others
 --   yes, no       the question is answered so
 --   refused       a refusal with this number and these places
+--   ringless      rules that fill class 0 with endless data alone
 --   drawings      the table
 --   comes_at      what must come of line k, and none past the end
+--   Crowd         a class of a world has n different individuals
+--   OnlyEndless   where a class is filled, it has n of them for every n
 --   Holds         a sheet shows four classes, two arrows and some rows
 --   Draws         a sheet shows the rows of a drawing
 --   IsGiven       a line of the code's table is the same line of this one
-use Rattle.std.specs.Prelude.{◌≡◌, ℕ, true, false, cond, ◌==◌, List, [], ◌∷◌, ◌++◌, map, Option, Some, None}
+use Rattle.std.specs.Prelude.{◌≡◌, ℕ, true, false, cond, ◌==◌, List, [], ◌∷◌, ◌++◌, map, length, Option, Some, None}
 use Rattle.std.specs.List.{slice_get, list_any}
 use Rattle.schema.specs.declared.row.Row.{Row}
 use Rattle.schema.specs.Refusals.{notice}
 use Rattle.schema.specs.Rules.{Rule, S, X, D, F, K, P, Q, row}
 use Rattle.schema.specs.Sheets.{Shown}
+use Rattle.schema.specs.Rows.{◌∈◌}
+use Rattle.schema.specs.Truth.{Follows}
+use Rattle.schema.specs.Worlds.{World, Individual, In, Distinct, ClassFilled}
 use Rattle.drawings.specs.declared.given.Given.{Given}
 use Rattle.drawings.specs.declared.told.Told.{Told}
 use Rattle.drawings.specs.declared.told.Told.TheVariants.{Table, Answer, Refusal}
@@ -45,6 +51,10 @@ no = Answer false
 abbrev pub refused : ℕ → ℕ → ℕ → Told
 refused number first second = Refusal (notice number first second)
 
+-- each in class 0 has two beyond it there, and at most one before it
+abbrev pub ringless : List Rule
+ringless = F 0 0 2 ∷ D 1 0 ∷ K 0 1 1 ∷ []
+
 abbrev pub drawings : List Drawing
 drawings =
     drawing [] None (empty [] [])
@@ -60,7 +70,7 @@ drawings =
     ∷ drawing (F 0 0 2 ∷ P 0 1 ∷ []) (Some (F 0 2 2)) (refused 20 0 0)
     ∷ drawing (D 0 0 ∷ D 2 1 ∷ X 0 1 ∷ []) (Some (Q 0 1)) yes
     ∷ drawing (D 0 0 ∷ D 2 1 ∷ Q 0 1 ∷ []) (Some (X 0 1)) no
-    ∷ drawing (F 0 0 2 ∷ D 1 0 ∷ K 0 1 1 ∷ []) None (empty [] [])
+    ∷ drawing ringless None (empty [] [])
     ∷ drawing (X 0 0 ∷ []) (Some (S 0 1)) yes
     ∷ drawing (X 0 0 ∷ []) (Some (S 1 0)) no
     ∷ drawing (X 0 0 ∷ []) (Some (X 1 0)) yes
@@ -72,6 +82,15 @@ comes_of (Some d) = Some d.comes
 
 abbrev pub comes_at : ℕ → Option Told
 comes_at k = comes_of (slice_get drawings k)
+
+pub record Crowd (w : World) (a n : ℕ) : Type 0 where
+  pub who : List Individual
+  pub many : length who ≡ n
+  pub different : Distinct who
+  pub inside : (i : Individual) → i ∈ who → In w a i
+
+abbrev pub OnlyEndless : List Rule → ℕ → Type 0
+OnlyEndless rules a = Follows (map row rules) (λ w. ClassFilled w a → (n : ℕ) → Crowd w a n)
 
 pub record Holds (s : Shown) (rows : List Row) : Type 0 where
   pub classes : s.classes ≡ 4
