@@ -27,46 +27,53 @@ raised_way =
     (go (by_F {e = 0} {n = 2} (has raised 0 (F 0 0 2) refl))
     (go (down {m = 2} {k = 1} (omega arith) (omega arith)) (go (by_P {e = 0} {f = 2} (has raised 1 (P 0 1) refl) refl) stay)))
 
-pub raised_once : Answers raised (F 0 2 1) yes
-raised_once = answers refl refl (derived (λ l. absurd (omega arith)) raised_way)
+pub once_line : Answers raised (F 0 2 1) yes
+once_line = answers refl refl (derived (λ l. absurd (omega arith)) raised_way)
 
--- no arrow leads to arrow 0, and a world has no third
-pub raised_thrice : Answers raised (F 0 0 3) no
-raised_thrice =
+-- no arrow leads to arrow 0, whose tail some world has only twice
+pub thrice_line : Answers raised (F 0 0 3) no
+thrice_line =
     answers refl refl
     (broken (having 2) (λ l. alone (map row raised) 0 refl) (having_some 2 0 0 2 (omega arith) ▹ (λ i j h. h) ▹ done)
     (λ f. having_few 2 0 0 2 (omega arith) [] tt (f [] tt)))
 
--- arrow 0 leads to arrow 1, so nothing counts there
+-- arrow 0 leads to arrow 1, so that nothing is counted there
 raised_count : Uncountable (map row raised) (row (F 0 2 2))
-raised_count = (0, 2, 2, refl, omega arith, λ alone. let q : ◌≡◌ {A = ℕ} 0 1 = alone 0 (go (has raised 1 (P 0 1) refl) stay) in omega arith)
+raised_count =
+    (0, 2, 2, refl, omega arith, λ alone. let q : ◌≡◌ {A = ℕ} 0 1 = alone 0 (go (has raised 1 (P 0 1) refl) stay) in omega arith)
 
-pub raised_twice : Answers raised (F 0 2 2) (refused 20 0 0)
-raised_twice = answers refl refl (uncountable raised_count)
+pub counted_line : Answers raised (F 0 2 2) (refused 20 0 0)
+counted_line = answers refl refl (uncountable raised_count)
 
 -- the tails of two arrows are in classes that are apart
-abbrev under_apart : List Rule
-under_apart = D 0 0 ∷ D 2 1 ∷ X 0 1 ∷ []
+abbrev tails : List Rule
+tails = D 0 0 ∷ D 2 1 ∷ X 0 1 ∷ []
 
-tails_apart : Yes (map row under_apart) (Q 0 1)
+-- so no pair belongs to both
+tails_apart : Yes (map row tails) (Q 0 1)
 tails_apart =
     inr
     (inr
     (inr
     (inl
-    (cls 0, cls 1, go (by_D (has under_apart 0 (D 0 0) refl)) stay, go (by_D (has under_apart 1 (D 2 1) refl)) stay, inl (by_X (has under_apart 2 (X 0 1) refl))))))
+    (cls 0, cls 1, go (by_D (has tails 0 (D 0 0) refl)) stay, go (by_D (has tails 1 (D 2 1) refl)) stay, inl (by_X (has tails 2 (X 0 1) refl))))))
 
-pub tails : Answers under_apart (Q 0 1) yes
-tails = answers refl refl (derived tt tails_apart)
+pub tails_line : Answers tails (Q 0 1) yes
+tails_line = answers refl refl (derived tt tails_apart)
 
-pub not_tails : Answers (D 0 0 ∷ D 2 1 ∷ Q 0 1 ∷ []) (X 0 1) no
-not_tails = answers refl refl (broken only_one tt ((λ i h. tt) ▹ (λ i h. tt) ▹ (λ i j h k. h) ▹ done) (λ f. f [] tt tt))
+-- arrows that are apart do not part their tails
+pub arrows_line : Answers (D 0 0 ∷ D 2 1 ∷ Q 0 1 ∷ []) (X 0 1) no
+arrows_line =
+    answers refl refl (broken only_one tt ((λ i h. tt) ▹ (λ i h. tt) ▹ (λ i j h k. h) ▹ done) (λ f. f [] tt tt))
 
-pub empty_under : Answers (X 0 0 ∷ []) (S 0 1) yes
-empty_under = answers refl refl (derived tt (inl apart_0))
+-- an empty class is within any other
+pub below_line : Answers (X 0 0 ∷ []) (S 0 1) yes
+below_line = answers refl refl (derived tt (inl apart_0))
 
-pub empty_over : Answers (X 0 0 ∷ []) (S 1 0) no
-empty_over = answers refl refl (broken no_zero tt ((λ i h k. h) ▹ done) (λ f. f [] tt))
+-- but no other is within it
+pub above_line : Answers (X 0 0 ∷ []) (S 1 0) no
+above_line = answers refl refl (broken no_zero tt ((λ i h k. h) ▹ done) (λ f. f [] tt))
 
-pub empty_apart : Answers (X 0 0 ∷ []) (X 1 0) yes
-empty_apart = answers refl refl (derived tt (inr (inl apart_0)))
+-- and it is apart from any other
+pub beside_line : Answers (X 0 0 ∷ []) (X 1 0) yes
+beside_line = answers refl refl (derived tt (inr (inl apart_0)))

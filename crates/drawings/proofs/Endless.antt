@@ -4,7 +4,7 @@ use Rattle.schema.specs.Rows.{◌∈◌}
 use Rattle.schema.specs.Rules.{D, F, K, row}
 use Rattle.schema.specs.Worlds.{World, Individual, In, Pair, Meets, Distinct, AtLeast, FulfilsAll}
 use Rattle.schema.proofs.theory.Counting.{Part, fewer}
-use Rattle.drawings.specs.Drawings.{Crowd, OnlyEndless, ringless}
+use Rattle.drawings.specs.Drawings.{Crowd, OnlyEndless, branching}
 use Rattle.drawings.proofs.Evidence.{has}
 use Rattle.drawings.proofs.Membership.{here, there, nowhere, here_or_there}
 
@@ -25,7 +25,7 @@ joined (x ∷ xs) ys d e never = (
   joined xs ys d.1 e (λ y m. never y (there xs m)),
 )
 
-module _ (w : World) (f : FulfilsAll w (map row ringless)) where
+module _ (w : World) (f : FulfilsAll w (map row branching)) where
   -- by the tail of arrow 0 there is a pair of it
   pair_of : (i j : Individual) → Meets w 0 i j → Pair w 0 i j
   pair_of i j (q, inl (e, t)) = let z : q ≡ 0 = omega arith in subst (λ x. Pair w x i j) z t
@@ -46,7 +46,7 @@ module _ (w : World) (f : FulfilsAll w (map row ringless)) where
   -- two individuals have no young in common
   one_parent : (p q c : Individual) → In w 0 c → Pair w 0 p c → Pair w 0 q c → (p ≡ q → ⊥) → ⊥
   one_parent p q c i s t differ =
-      f (K 0 1 1) (has ringless 2 (K 0 1 1) refl) c i
+      f (K 0 1 1) (has branching 2 (K 0 1 1) refl) c i
       (heads c (p ∷ q ∷ []) ((λ m. differ (sym (only p q m))), (nowhere q, tt))
       (λ j m. elim (here_or_there (q ∷ []) m) [ inl e ↦ subst (λ x. Pair w 0 x c) e s | inr n ↦ subst (λ x. Pair w 0 x c) (only j q n) t ]))
 
@@ -55,10 +55,10 @@ module _ (w : World) (f : FulfilsAll w (map row ringless)) where
   brood [] d h = record { young = []; many = refl; different = tt; inside = λ c m. absurd (nowhere c m); parent = λ c m. absurd (nowhere c m) }
   brood (p ∷ ps) d h =
       let r : Brood ps = brood ps d.1 (λ q m. h q (there ps m)) in
-      let s : AtLeast w 0 2 p = f (F 0 0 2) (has ringless 0 (F 0 0 2) refl) p (h p (here ps refl)) in
+      let s : AtLeast w 0 2 p = f (F 0 0 2) (has branching 0 (F 0 0 2) refl) p (h p (here ps refl)) in
       let own : (c : Individual) → c ∈ s.who → Pair w 0 p c = λ c m. pair_of p c (s.meeting c m) in
       let in_0 : (c : Individual) → c ∈ s.who → In w 0 c =
-      λ c m. f (D 1 0) (has ringless 1 (D 1 0) refl) c (heads c (p ∷ []) (nowhere p, tt) (λ j n. subst (λ x. Pair w 0 x c) (only j p n) (own c m))) in
+      λ c m. f (D 1 0) (has branching 1 (D 1 0) refl) c (heads c (p ∷ []) (nowhere p, tt) (λ j n. subst (λ x. Pair w 0 x c) (only j p n) (own c m))) in
       record {
         young = s.who ++ r.young;
         many = omega (arith, length-append s.who r.young, s.many, r.many);
@@ -102,5 +102,5 @@ module _ (w : World) (f : FulfilsAll w (map row ringless)) where
       let part : Part n r.who = fewer r.who n (omega (arith, r.more)) r.different in
       record { who = part.ks; many = part.long; different = part.differ; inside = λ j m. r.inside j (part.from j m) }
 
-pub only_endless : OnlyEndless ringless 0
+pub only_endless : OnlyEndless branching 0
 only_endless w f (i, h) = crowd w f i h

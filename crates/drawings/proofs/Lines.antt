@@ -2,13 +2,13 @@
 use Rattle.schema.specs.Rows.{◌∈◌}
 use Rattle.drawings.specs.Drawings.{Drawing, drawings}
 use Rattle.drawings.proofs.Evidence.{Each, done, ◌▹◌, of_one, Evidence}
-use Rattle.drawings.proofs.Listing.{no_rows, apart, over, twice, torn_apart, parted, shared, below_shared, only_endless}
-use Rattle.drawings.proofs.Asking.{raised_once, raised_thrice, raised_twice, tails, not_tails, empty_under, empty_over, empty_apart}
+use Rattle.drawings.proofs.Listing.{none_line, apart_line, over_line, twice_line, torn_line, parted_line, shared_line, alone_line, branching_line}
+use Rattle.drawings.proofs.Asking.{once_line, thrice_line, counted_line, tails_line, arrows_line, below_line, above_line, beside_line}
 
 lines : Each Evidence drawings
 lines =
-    no_rows ▹ apart ▹ over ▹ twice ▹ torn_apart ▹ parted ▹ shared ▹ below_shared ▹ raised_once ▹ raised_thrice ▹ raised_twice ▹ tails
-    ▹ not_tails ▹ only_endless ▹ empty_under ▹ empty_over ▹ empty_apart ▹ done
+    none_line ▹ apart_line ▹ over_line ▹ twice_line ▹ torn_line ▹ parted_line ▹ shared_line ▹ alone_line ▹ once_line ▹ thrice_line
+    ▹ counted_line ▹ tails_line ▹ arrows_line ▹ branching_line ▹ below_line ▹ above_line ▹ beside_line ▹ done
 
 -- so there is evidence of each drawing
 pub evidence : (d : Drawing) → d ∈ drawings → Evidence d

@@ -3,14 +3,15 @@
 --   empty         the verdict marks these classes and these arrows, and no others
 --   yes, no       the question is answered so
 --   refused       a refusal with this number and these places
---   ringless      rules that fill class 0 with endless data alone
 --   drawings      the table
 --   comes_at      what must come of line k, and none past the end
 --   Crowd         a class of a world has n different individuals
+--   branching     the rules of one drawing
 --   OnlyEndless   where a class is filled, it has n of them for every n
 --   Holds         a sheet shows four classes, two arrows and some rows
 --   Draws         a sheet shows the rows of a drawing
---   IsGiven       a line of the code's table is the same line of this one
+--   asked_row     the row of the rule that is asked
+--   IsGiven       a line of the code's table is the same line of this one; for inner contracts
 use Rattle.std.specs.Prelude.{◌≡◌, ℕ, true, false, cond, ◌==◌, List, [], ◌∷◌, ◌++◌, map, length, Option, Some, None}
 use Rattle.std.specs.List.{slice_get, list_any}
 use Rattle.schema.specs.declared.row.Row.{Row}
@@ -51,10 +52,6 @@ no = Answer false
 abbrev pub refused : ℕ → ℕ → ℕ → Told
 refused number first second = Refusal (notice number first second)
 
--- each in class 0 has two beyond it there, and at most one before it
-abbrev pub ringless : List Rule
-ringless = F 0 0 2 ∷ D 1 0 ∷ K 0 1 1 ∷ []
-
 abbrev pub drawings : List Drawing
 drawings =
     drawing [] None (empty [] [])
@@ -70,7 +67,7 @@ drawings =
     ∷ drawing (F 0 0 2 ∷ P 0 1 ∷ []) (Some (F 0 2 2)) (refused 20 0 0)
     ∷ drawing (D 0 0 ∷ D 2 1 ∷ X 0 1 ∷ []) (Some (Q 0 1)) yes
     ∷ drawing (D 0 0 ∷ D 2 1 ∷ Q 0 1 ∷ []) (Some (X 0 1)) no
-    ∷ drawing ringless None (empty [] [])
+    ∷ drawing (F 0 0 2 ∷ D 1 0 ∷ K 0 1 1 ∷ []) None (empty [] [])
     ∷ drawing (X 0 0 ∷ []) (Some (S 0 1)) yes
     ∷ drawing (X 0 0 ∷ []) (Some (S 1 0)) no
     ∷ drawing (X 0 0 ∷ []) (Some (X 1 0)) yes
@@ -88,6 +85,10 @@ pub record Crowd (w : World) (a n : ℕ) : Type 0 where
   pub many : length who ≡ n
   pub different : Distinct who
   pub inside : (i : Individual) → i ∈ who → In w a i
+
+-- each in class 0 has two below it there, and at most one above it
+abbrev pub branching : List Rule
+branching = F 0 0 2 ∷ D 1 0 ∷ K 0 1 1 ∷ []
 
 abbrev pub OnlyEndless : List Rule → ℕ → Type 0
 OnlyEndless rules a = Follows (map row rules) (λ w. ClassFilled w a → (n : ℕ) → Crowd w a n)
@@ -110,6 +111,5 @@ SameLine None (Some g) = ⊥
 SameLine (Some d) None = ⊥
 SameLine (Some d) (Some g) = (g.rows.now ≡ map row d.rules) × (g.asked ≡ asked_row d.asked)
 
--- for inner contracts: no call's promise rests on it
 abbrev pub IsGiven : ℕ → Option Given → Type 0
 IsGiven k = SameLine (slice_get drawings k)

@@ -2,7 +2,7 @@
 ghost use Rattle.std.specs.Prelude.{◌≡◌, ◌≤◌, length, IfOk};
 ghost use Rattle.schema.specs.Books.{book_shows};
 ghost use Rattle.schema.specs.Rows.{◌∈◌};
-ghost use Rattle.drawings.specs.Drawings.{Drawing, drawings, asked_row, Draws, Holds, comes_at, ringless, OnlyEndless};
+ghost use Rattle.drawings.specs.Drawings.{Drawing, drawings, asked_row, Draws, Holds, comes_at, branching, OnlyEndless};
 
 use crate::given::given_at;
 use crate::told::Told;
@@ -16,10 +16,10 @@ use std::alloc::{AllocError, Global};
 
 /// Draws number `line` of the table, and answers what is said of it; `None` past the table's end.
 ///
-/// One drawing, the rows `ringless`, has no empty class, though only endless data fills its class 0.
+/// One line, `branching`, forces nothing empty, though only endless data fills its class 0.
 pub fn draw(heap: Global, line: usize) -> Result<Option<Told>, AllocError>
     ensures said { IfOk result (λ said. said ≡ comes_at line) }
-    ensures endless { OnlyEndless ringless 0 }
+    ensures endless { OnlyEndless branching 0 }
 {
     let Some(given) = given_at(line) else {
         return Ok(None);
