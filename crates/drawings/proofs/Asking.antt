@@ -27,6 +27,7 @@ raised_way =
     (go (by_F {e = 0} {n = 2} (has raised 0 (F 0 0 2) refl))
     (go (down {m = 2} {k = 1} (omega arith) (omega arith)) (go (by_P {e = 0} {f = 2} (has raised 1 (P 0 1) refl) refl) stay)))
 
+-- and is told so
 pub once_line : Answers raised (F 0 2 1) yes
 once_line = answers refl refl (derived (λ l. absurd (omega arith)) raised_way)
 
@@ -42,6 +43,7 @@ raised_count : Uncountable (map row raised) (row (F 0 2 2))
 raised_count =
     (0, 2, 2, refl, omega arith, λ alone. let q : ◌≡◌ {A = ℕ} 0 1 = alone 0 (go (has raised 1 (P 0 1) refl) stay) in omega arith)
 
+-- and the question is refused
 pub counted_line : Answers raised (F 0 2 2) (refused 20 0 0)
 counted_line = answers refl refl (uncountable raised_count)
 
@@ -58,6 +60,7 @@ tails_apart =
     (inl
     (cls 0, cls 1, go (by_D (has tails 0 (D 0 0) refl)) stay, go (by_D (has tails 1 (D 2 1) refl)) stay, inl (by_X (has tails 2 (X 0 1) refl))))))
 
+-- and that is told
 pub tails_line : Answers tails (Q 0 1) yes
 tails_line = answers refl refl (derived tt tails_apart)
 

@@ -59,11 +59,18 @@ ClassMark rules table w k = Marks (get_or table k 0) (EmptyClass (map row rules)
 abbrev pub ArrowMark : List Rule → List ℕ → World → ℕ → Type 0
 ArrowMark rules table w k = Marks (get_or table (4 + k) 0) (EmptyArrow (map row rules) k) (ArrowFilled w k)
 
+-- of all four classes, and of both arrows
+abbrev pub ClassMarks : List Rule → List ℕ → World → Type 0
+ClassMarks rules table w = ClassMark rules table w 0 × ClassMark rules table w 1 × ClassMark rules table w 2 × ClassMark rules table w 3
+
+abbrev pub ArrowMarks : List Rule → List ℕ → World → Type 0
+ArrowMarks rules table w = ArrowMark rules table w 0 × ArrowMark rules table w 1
+
 -- one world fulfils the rules and fills each name that no derivation tells empty
 pub record Sorted (rules : List Rule) (table : List ℕ) (w : World) : Type 0 where
   pub fulfilled : Each (Fulfils w) rules
-  pub classes : Each (ClassMark rules table w) (0 ∷ 1 ∷ 2 ∷ 3 ∷ [])
-  pub arrows : ArrowMark rules table w 0 × ArrowMark rules table w 1
+  pub classes : ClassMarks rules table w
+  pub arrows : ArrowMarks rules table w
 
 -- a row caps a shared arrow, and none before it does
 pub record FirstCap (rules : List Rule) (k : ℕ) : Type 0 where

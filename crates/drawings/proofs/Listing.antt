@@ -8,21 +8,20 @@ use Rattle.schema.specs.Webs.{cls, mark, by_F, by_D, by_X, by_K, clash, leads, c
 use Rattle.schema.specs.Questions.{EmptyDescription}
 use Rattle.schema.specs.Verdicts.{CapsShared, EachBelow}
 use Rattle.drawings.specs.Drawings.{bytes, empty, refused, branching}
-use Rattle.drawings.proofs.Evidence.{has, Each, done, ◌▹◌, ClassMark, ArrowMark, FirstCap, Judges, sorted, capped}
+use Rattle.drawings.proofs.Evidence.{has, Each, done, ◌▹◌, ClassMarks, ArrowMarks, FirstCap, Judges, sorted, capped}
 use Rattle.drawings.proofs.Passing.{fine, passing, passes}
 use Rattle.drawings.proofs.Worlds.{everything, no_zero, only_one, by_length, having, endless, no_head, one_class, no_class, having_some, having_few, endless_some, endless_one}
 
 -- a verdict on rules that pass the checks, which are computed
 judges : {rules : List Rule} (classes arrows : List ℕ) (w : World) → passing (map row rules) ≡ true → Each (Fulfils w) rules
-    → Each (ClassMark rules (bytes classes arrows) w) (0 ∷ 1 ∷ 2 ∷ 3 ∷ [])
-    → ArrowMark rules (bytes classes arrows) w 0 × ArrowMark rules (bytes classes arrows) w 1 → Judges rules (empty classes arrows)
+    → ClassMarks rules (bytes classes arrows) w → ArrowMarks rules (bytes classes arrows) w → Judges rules (empty classes arrows)
 judges {rules} classes arrows w h f cs ps =
     sorted (bytes classes arrows) w (passes (map row rules) h) refl record { fulfilled = f; classes = cs; arrows = ps }
 
 -- the same, where one individual is in every class
 filled : {rules : List Rule} (arrows : List ℕ) (w : World) → ((k : ℕ) → In w k []) → passing (map row rules) ≡ true → Each (Fulfils w) rules
-    → ArrowMark rules (bytes [] arrows) w 0 × ArrowMark rules (bytes [] arrows) w 1 → Judges rules (empty [] arrows)
-filled arrows w i h f ps = judges [] arrows w h f (([], i 0) ▹ ([], i 1) ▹ ([], i 2) ▹ ([], i 3) ▹ done) ps
+    → ArrowMarks rules (bytes [] arrows) w → Judges rules (empty [] arrows)
+filled arrows w i h f ps = judges [] arrows w h f (([], i 0), ([], i 1), ([], i 2), ([], i 3)) ps
 
 -- no rows force nothing
 pub none_line : Judges [] (empty [] [])
@@ -35,7 +34,7 @@ apart_0 = clash (cls 0, cls 0, stay, stay, inl (by_X (has (X 0 0 ∷ []) 0 (X 0 
 -- and no other is forced empty
 pub apart_line : Judges (X 0 0 ∷ []) (empty (0 ∷ []) [])
 apart_line =
-    judges (0 ∷ []) [] no_zero refl ((λ i h k. h) ▹ done) (apart_0 ▹ ([], tt) ▹ ([], tt) ▹ ([], tt) ▹ done)
+    judges (0 ∷ []) [] no_zero refl ((λ i h k. h) ▹ done) (apart_0, ([], tt), ([], tt), ([], tt))
     (([], [], tt), ([], [], tt))
 
 -- each in class 0 has an end twice, and at most once
@@ -51,7 +50,7 @@ over_0 =
 -- and no other is forced empty
 pub over_line : Judges over (empty (0 ∷ []) [])
 over_line =
-    judges (0 ∷ []) [] no_zero refl ((λ i h. absurd h) ▹ (λ i h s. h) ▹ done) (over_0 ▹ ([], tt) ▹ ([], tt) ▹ ([], tt) ▹ done)
+    judges (0 ∷ []) [] no_zero refl ((λ i h. absurd h) ▹ (λ i h s. h) ▹ done) (over_0, ([], tt), ([], tt), ([], tt))
     (([], [], tt), ([], [], tt))
 
 -- twice, and at most twice
@@ -92,7 +91,7 @@ torn_fulfilled =
 -- and no other is forced empty
 pub torn_line : Judges torn (empty (0 ∷ []) (0 ∷ []))
 torn_line =
-    judges (0 ∷ []) (0 ∷ []) by_length refl torn_fulfilled (torn_class ▹ ([], tt) ▹ (0 ∷ [], tt) ▹ (0 ∷ 0 ∷ [], tt) ▹ done)
+    judges (0 ∷ []) (0 ∷ []) by_length refl torn_fulfilled (torn_class, ([], tt), (0 ∷ [], tt), (0 ∷ 0 ∷ [], tt))
     (torn_arrow, ([], [], tt))
 
 -- a pair of arrow 0 is one of arrow 1, and no pair is of both

@@ -11,6 +11,7 @@ module _ {A : Type 0} where
   pub there : {x y : A} (ys : List A) → x ∈ ys → x ∈ (y ∷ ys)
   there ys m = inr m
 
+  -- the empty list has none
   pub nowhere : (x : A) → x ∈ [] → ⊥
   nowhere x m = m
 

@@ -1,5 +1,5 @@
 -- From what shows an answer, and what the verdict and the question promise, to what is said.
-use Rattle.std.proofs.Common.{◌≡◌, ℕ, zero, suc, ◌+◌, ◌-◌, ◌<◌, true, false, List, [], ◌∷◌, map, length, get_or, Option, Some, None, Bool, Ok, Err, Result, sym, refl, ap, ◌∙◌, subst, inl, inr, arith}
+use Rattle.std.proofs.Common.{◌≡◌, ℕ, zero, suc, ◌+◌, ◌-◌, ◌<◌, true, false, List, map, length, get_or, Option, Some, None, Bool, Ok, Err, Result, sym, refl, ap, ◌∙◌, subst, inl, inr, arith}
 use Rattle.std.specs.List.{slice_get}
 use Rattle.std.proofs.lemmas.Bool.{cases_lt}
 use Rattle.std.proofs.lemmas.Grind.{same_number_lists}
@@ -22,7 +22,7 @@ use Rattle.drawings.specs.declared.told.Told.{Told}
 use Rattle.drawings.specs.declared.told.Told.TheVariants.{Table, Answer, Refusal}
 use Rattle.drawings.specs.declared.given.Given.{Given}
 use Rattle.drawings.specs.Drawings.{Drawing, drawings, asked_row, Holds, Draws, comes_of, comes_at, SameLine, IsGiven}
-use Rattle.drawings.proofs.Evidence.{of_one, fulfils, Marks, ClassMark, ArrowMark, Sorted, Judges, sorted, capped, Because, derived, broken, uncountable, Answers, Evidence, unasked, asked}
+use Rattle.drawings.proofs.Evidence.{fulfils, Marks, ClassMark, ArrowMark, Sorted, Judges, sorted, capped, Because, derived, broken, uncountable, Answers, Evidence, unasked, asked}
 use Rattle.drawings.proofs.Refusing.{sound_all, only_cap, unrefused}
 use Rattle.schema.proofs.Members.{nth_∈}
 
@@ -34,14 +34,6 @@ marked (suc zero) c empty never (inl (f, y)) everywhere = f
 marked (suc zero) c empty never (inr (f, y)) everywhere = absurd (y empty)
 marked (suc (suc b)) c h never here everywhere = absurd h
 
--- the numbers of the classes
-four : (k : ℕ) → k < 4 → k ∈ (0 ∷ 1 ∷ 2 ∷ 3 ∷ [])
-four zero l = nth_∈ 0 (0 ∷ 1 ∷ 2 ∷ 3 ∷ []) 0 refl
-four (suc zero) l = nth_∈ 1 (0 ∷ 1 ∷ 2 ∷ 3 ∷ []) 1 refl
-four (suc (suc zero)) l = nth_∈ 2 (0 ∷ 1 ∷ 2 ∷ 3 ∷ []) 2 refl
-four (suc (suc (suc zero))) l = nth_∈ 3 (0 ∷ 1 ∷ 2 ∷ 3 ∷ []) 3 refl
-four (suc (suc (suc (suc k)))) l = absurd (omega arith)
-
 module _ (rules : List Rule) where
   -- the table of the verdict
   table_is : (table : List ℕ) (w : World) → Sorted rules table w → length table ≡ 6 → (before after : List ℕ) (ones : ℕ)
@@ -51,19 +43,25 @@ module _ (rules : List Rule) where
       ful : FulfilsAll w (map row rules)
       ful = fulfils w rules s.fulfilled
 
+      class_mark : (k : ℕ) → k < 4 → ClassMark rules table w k
+      class_mark zero l = s.classes.0
+      class_mark (suc zero) l = s.classes.1
+      class_mark (suc (suc zero)) l = s.classes.2
+      class_mark (suc (suc (suc zero))) l = s.classes.3
+      class_mark (suc (suc (suc (suc k)))) l = absurd (omega arith)
+
+      arrow_mark : (k : ℕ) → k < 2 → ArrowMark rules table w k
+      arrow_mark zero l = s.arrows.0
+      arrow_mark (suc zero) l = s.arrows.1
+      arrow_mark (suc (suc k)) l = absurd (omega arith)
+
       class : (k : ℕ) → k < 4 → get_or after k 0 ≡ get_or table k 0
       class k l =
-          marked (get_or table k 0) (get_or after k 0) (of_one (ClassMark rules table w) (0 ∷ 1 ∷ 2 ∷ 3 ∷ []) s.classes k (four k l))
-          (λ f e. e w ful f) (v.class_bytes k l) (v.class_everywhere k l)
-
-      mark : (k : ℕ) → k < 2 → ArrowMark rules table w k
-      mark zero l = s.arrows.0
-      mark (suc zero) l = s.arrows.1
-      mark (suc (suc k)) l = absurd (omega arith)
+          marked (get_or table k 0) (get_or after k 0) (class_mark k l) (λ f e. e w ful f) (v.class_bytes k l) (v.class_everywhere k l)
 
       arrow : (k : ℕ) → k < 2 → get_or after (4 + k) 0 ≡ get_or table (4 + k) 0
       arrow k l =
-          marked (get_or table (4 + k) 0) (get_or after (4 + k) 0) (mark k l) (λ f e. e w ful f) (v.arrow_bytes k l) (v.arrow_everywhere k l)
+          marked (get_or table (4 + k) 0) (get_or after (4 + k) 0) (arrow_mark k l) (λ f e. e w ful f) (v.arrow_bytes k l) (v.arrow_everywhere k l)
 
       byte : (k : ℕ) → k < length after → get_or after k 0 ≡ get_or table k 0
       byte k l =
@@ -116,28 +114,32 @@ module _ (rules : List Rule) where
         on (uncountable u) = refl
 
 -- what is so of the counts and rows of a sheet is so of what it holds
-there : (Fact : ℕ → ℕ → List Row → Type 0) (s : Shown) (rows : List Row) → Holds s rows → Fact s.classes s.arrows s.rows → Fact 4 2 rows
-there Fact s rows h x = rw (h.classes, h.arrows, h.shows) at x
+held : (Fact : ℕ → ℕ → List Row → Type 0) (s : Shown) (rows : List Row) → Holds s rows → Fact s.classes s.arrows s.rows → Fact 4 2 rows
+held Fact s rows h x = rw (h.classes, h.arrows, h.shows) at x
 
 -- of a sheet that shows a drawing for which there is evidence
 module _ (s : Shown) (d : Drawing) (draws : Draws d s) (h : Evidence d) where
+  -- what the verdict lists
   pub listed_said : None ≡ asked_row d.asked → (before after : List ℕ) (ones : ℕ) → Verdict s before (Ok ones) after → length after ≡ 6 → Table after ≡ d.comes
   listed_said e before after ones v six =
-      table_said d.rules d.comes (unasked d h e) before after ones (there (λ c p rows. Judged c p rows before (Ok ones) after) s _ draws v) six
+      table_said d.rules d.comes (unasked d h e) before after ones (held (λ c p rows. Judged c p rows before (Ok ones) after) s _ draws v) six
 
+  -- why the verdict is refused
   pub refused_said : None ≡ asked_row d.asked → (before after : List ℕ) (f : VerdictFault) → Verdict s before (Err f) after → length before ≡ 6 → Refusal (verdict_notice f) ≡ d.comes
   refused_said e before after f v six =
-      fault_said d.rules d.comes (unasked d h e) before after f (there (λ c p rows. Judged c p rows before (Err f) after) s _ draws v) six
+      fault_said d.rules d.comes (unasked d h e) before after f (held (λ c p rows. Judged c p rows before (Err f) after) s _ draws v) six
 
-  -- the same of a question
-  answered_so : (r : Row) (ρ : Rule) → r ≡ row ρ → (result : Result Bool QuestionFault) → Asked s r result → Replied 4 2 (map row d.rules) (row ρ) result
-  answered_so r ρ e result v = subst (λ q. Replied 4 2 (map row d.rules) q result) e (there (λ c p rows. Replied c p rows r result) s _ draws v)
+  -- what a question about the sheet answers is an answer about the drawing's rules
+  replied : (r : Row) (ρ : Rule) → r ≡ row ρ → (result : Result Bool QuestionFault) → Asked s r result → Replied 4 2 (map row d.rules) (row ρ) result
+  replied r ρ e result v = subst (λ q. Replied 4 2 (map row d.rules) q result) e (held (λ c p rows. Replied c p rows r result) s _ draws v)
 
+  -- what a question answers
   pub answered_said : (r : Row) → Some r ≡ asked_row d.asked → (b : Bool) → Asked s r (Ok b) → Answer b ≡ d.comes
-  answered_said r e b v = let a = asked d h r e in answer_said d.rules a.0 d.comes a.2 b (answered_so r a.0 a.1 (Ok b) v)
+  answered_said r e b v = let a = asked d h r e in answer_said d.rules a.0 d.comes a.2 b (replied r a.0 a.1 (Ok b) v)
 
+  -- why a question is refused
   pub unanswered_said : (r : Row) → Some r ≡ asked_row d.asked → (f : QuestionFault) → Asked s r (Err f) → Refusal (question_notice f) ≡ d.comes
-  unanswered_said r e f v = let a = asked d h r e in doubt_said d.rules a.0 d.comes a.2 f (answered_so r a.0 a.1 (Err f) v)
+  unanswered_said r e f v = let a = asked d h r e in doubt_said d.rules a.0 d.comes a.2 f (replied r a.0 a.1 (Err f) v)
 
 -- what is said of a line's rows is what must come of the line
 pub drawn : (s : Shown) (t : Told) (g : Given) (line : ℕ) → IsGiven line (Some g) → Holds s g.rows.now
