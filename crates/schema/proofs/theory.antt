@@ -20,4 +20,3 @@ pub mod Breaking
 pub mod OneWorld
 pub mod Asking
 pub mod Exactness
-pub mod Drawings
