@@ -85,7 +85,7 @@ module _ (rows : List Row) (sound : AllSound 64 32 rows) (w : Keys) (known : Sur
           let small : e < 64 = p.0 in
           let d : Doomed (64 + e) = f (64 + e) (omega arith) (omega arith) (omega arith) in
           let same : e ≡ 64 + e - 64 = omega arith in
-          let m : Member (get_or w.reaches k blank).ends (64 + e - 64) = subst (Member (get_or w.reaches k blank).ends) same ((known k h).to_ends.all e small q) in
+          let m : Member (get_or w.reaches k blank).keys.ends (64 + e - 64) = subst (Member (get_or w.reaches k blank).keys.ends) same ((known k h).to_ends.all e small q) in
           leads_then d (step_to (64 + e) k (omega arith) h (to_end (omega arith) (omega arith) h m))
 
   -- the marks from the start say which keys are empty

@@ -3,7 +3,9 @@ pub mod Answering
 pub mod Bits
 pub mod Building
 pub mod Caps
+pub mod Closings
 pub mod Schemas
+pub mod Fillings
 pub mod Finds
 pub mod Doom
 pub mod Emptied

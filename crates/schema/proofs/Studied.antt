@@ -41,5 +41,5 @@ module _ (rows : List Row) (w : KeyLinks) (built : KeyBuilt rows w) (sound : All
   -- what is learned of a key in its web is so in the rows
   pub key_known : (r : Reach) → Studied w k r → Known rows k r
   key_known r s =
-      let c = classes_known r.classes s.to_classes in
-      record { to_classes = c; to_ends = ends_known r.ends s.to_ends; tears = torn_known r.torn r.classes c s.tears }
+      let c = classes_known r.keys.classes s.led.to_classes in
+      record { to_classes = c; to_ends = ends_known r.keys.ends s.led.to_ends; tears = torn_known r.torn r.keys.classes c s.tears }

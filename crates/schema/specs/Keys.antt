@@ -6,6 +6,7 @@ use Rattle.schema.specs.declared.row.Row.{Row}
 use Rattle.schema.specs.declared.arrows.Arrows.{Arrows}
 use Rattle.schema.specs.declared.descriptions.Descriptions.{Descriptions}
 use Rattle.schema.specs.declared.keys.KeyLinks.{KeyLinks}
+use Rattle.schema.specs.declared.keys.KeySet.{KeySet}
 use Rattle.schema.specs.declared.keys.Keys.{Keys}
 use Rattle.schema.specs.declared.keys.Reach.{Reach}
 use Rattle.schema.specs.Points.{supers_of, needs_of, counts_of, Built}
@@ -81,14 +82,46 @@ pub data Forward (w : KeyLinks) (i j : ℕ) : Type 0 where
   end_class : 64 ≤ i → i < 128 → j < 64 → Member (slice_index w.links.domains (i - 64)) j → Forward w i j
   to_an_end : i < 128 → 64 ≤ j → j < 128 → ForwardEnd w i (j - 64) → Forward w i j
 
+abbrev pub none : KeySet
+none = record { classes = 0; ends = 0 }
+
 abbrev pub blank : Reach
-blank = record { classes = 0; ends = 0; torn = false }
+blank = record { keys = none; torn = false }
+
+-- a key is in the set
+abbrev pub Holds : KeySet → ℕ → Type 0
+Holds s j = ((j < 64) × Member s.classes j) ⊎ ((64 ≤ j) × Member s.ends (j - 64))
+
+-- no class and no end has a number from 64 on
+abbrev pub Narrow : KeySet → Type 0
+Narrow s = (k : ℕ) → (Member s.classes k → k < 64) × (Member s.ends k → k < 64)
+
+-- the same keys, and one more
+pub record AddsKey (s : KeySet) (key : ℕ) (r : KeySet) : Type 0 where
+  pub narrow : Narrow s → Narrow r
+  pub new : Holds r key
+  pub kept : (j : ℕ) → Holds s j → Holds r j
+  pub only : (j : ℕ) → Holds r j → Holds s j ⊎ (j ≡ key)
+
+-- the same keys, and what lies beyond a key if it is one of them
+pub record PassesKey (via : ℕ) (beyond s r : KeySet) : Type 0 where
+  pub narrow : Narrow beyond → Narrow s → Narrow r
+  pub kept : (j : ℕ) → Holds s j → Holds r j
+  pub more : (j : ℕ) → Holds s via → Holds beyond j → Holds r j
+  pub only : (j : ℕ) → Holds r j → Holds s j ⊎ (Holds s via × Holds beyond j)
+
+-- a key, what it links to, and no key that it does not lead to
+pub record NearKey (w : KeyLinks) (k : ℕ) (s : KeySet) : Type 0 where
+  pub narrow : Narrow s
+  pub self : Holds s k
+  pub all : (j : ℕ) → Joined 128 (Forward w) k j → Holds s j
+  pub only : (j : ℕ) → Holds s j → Leads (Joined 128 (Forward w)) k j
 
 -- a link backward: to key j from the point 128, from what j leads to, or from the other end of its arrow
 pub data Backward (w : Keys) (i j : ℕ) : Type 0 where
   is_torn : i ≡ 128 → j < 128 → (slice_index_or w.reaches j blank).torn ≡ true → Backward w i j
-  to_class : i < 64 → j < 128 → Member (slice_index_or w.reaches j blank).classes i → Backward w i j
-  to_end : 64 ≤ i → i < 128 → j < 128 → Member (slice_index_or w.reaches j blank).ends (i - 64) → Backward w i j
+  to_class : i < 64 → j < 128 → Member (slice_index_or w.reaches j blank).keys.classes i → Backward w i j
+  to_end : 64 ≤ i → i < 128 → j < 128 → Member (slice_index_or w.reaches j blank).keys.ends (i - 64) → Backward w i j
   other_end : 64 ≤ i → i < 128 → j < 128 → i / 2 ≡ j / 2 → Backward w i j
 
 -- the description of a key
@@ -109,16 +142,24 @@ pub record KeyBuilt (rows : List Row) (w : KeyLinks) : Type 0 where
   pub rivals : RivalSets w.links rows w.rivals
   pub broken : Gathers (ArrowTorn rows) 32 w.broken
 
--- where the web of keys leads from a key, and whether what it leads to clashes
+-- where the web of keys leads from a key
+pub record Led (w : KeyLinks) (k : ℕ) (s : KeySet) : Type 0 where
+  pub to_classes : Gathers (λ a. Leads (Joined 128 (Forward w)) k a) 64 s.classes
+  pub to_ends : Gathers (λ e. Leads (Joined 128 (Forward w)) k (64 + e)) 64 s.ends
+
+-- and from each
+abbrev pub LedTo : KeyLinks → List KeySet → Type 0
+LedTo w led = (k : ℕ) → k < 128 → Led w k (slice_index_or led k none)
+
+-- where it leads from a key, and whether what it leads to clashes
 pub record Studied (w : KeyLinks) (k : ℕ) (r : Reach) : Type 0 where
-  pub to_classes : Gathers (λ a. Leads (Joined 128 (Forward w)) k a) 64 r.classes
-  pub to_ends : Gathers (λ e. Leads (Joined 128 (Forward w)) k (64 + e)) 64 r.ends
-  pub tears : Tells r.torn (TornSets w.rivals r.classes ⊎ ((64 ≤ k) × Member w.broken ((k - 64) / 2)))
+  pub led : Led w k r.keys
+  pub tears : Tells r.torn (TornSets w.rivals r.keys.classes ⊎ ((64 ≤ k) × Member w.broken ((k - 64) / 2)))
 
 -- what is known of a key
 pub record Known (rows : List Row) (k : ℕ) (r : Reach) : Type 0 where
-  pub to_classes : Gathers (λ a. Leads (Link rows) (keyed k) (cls a)) 64 r.classes
-  pub to_ends : Gathers (λ e. Leads (Link rows) (keyed k) (mark e 1)) 64 r.ends
+  pub to_classes : Gathers (λ a. Leads (Link rows) (keyed k) (cls a)) 64 r.keys.classes
+  pub to_ends : Gathers (λ e. Leads (Link rows) (keyed k) (mark e 1)) 64 r.keys.ends
   pub tears : Tells r.torn (Torn rows k)
 
 -- the first n keys are known

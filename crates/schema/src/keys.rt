@@ -5,7 +5,7 @@
 //! 128 leads to in a web that goes backwards: from 128 to each key that leads to two that clash, from a key to each
 //! that leads to it, and between the two ends of an arrow.
 ghost use Rattle.std.specs.Prelude.{◌≡◌, ◌+◌, ◌-◌, ◌*◌, ◌/◌, ◌<◌};
-ghost use Rattle.schema.specs.Keys.{Forward, Backward, EmptyKeys, KeyBuilt, Studied, Surveyed};
+ghost use Rattle.schema.specs.Keys.{Forward, Backward, EmptyKeys, KeyBuilt, Holds, AddsKey, PassesKey, NearKey, LedTo, Studied, Surveyed};
 ghost use Rattle.schema.specs.Verdicts.{Tells};
 ghost use Rattle.std.proofs.Common.{rules};
 
@@ -79,19 +79,96 @@ impl KeyLinks {
         }
     }
 
-    // What a key leads to, and whether it is torn: two of its classes clash, or it is an end of a broken arrow.
-    fn study(&self, key: usize) -> Reach
+    // A key and what it links to.
+    fn near(&self, key: usize) -> KeySet
         requires { key < 128 }
+        ensures { NearKey self.now key result }
+    {
+        let mut keys = KeySet::EMPTY;
+        keys.insert(key);
+        // a cursor, as `next_link` wants it
+        let mut at = 0;
+        while let Some(to) = self.next_link(key, at) {
+            keys.insert(to);
+            at = to + 1;
+        }
+        keys
+    }
+
+    // What each key leads to. Each begins with what it links to, and then each that has a key, one key after the
+    // other, takes over what that one has.
+    fn closed(&self) -> [KeySet; KEYS]
+        ensures { LedTo self.now result }
+    {
+        let mut led = array::from_fn(|key| self.near(key));
+        for via in 0..KEYS {
+            let beyond = led[via];
+            for keys in led.iter_mut() {
+                keys.pass(via, &beyond);
+            }
+        }
+        led
+    }
+
+    // What a key leads to, and whether it is torn: two of its classes clash, or it is an end of a broken arrow.
+    fn study(&self, led: &[KeySet; KEYS], key: usize) -> Reach
+        requires known { key < 128 }
+        requires led { LedTo self.now led.now }
         ensures { Studied self.now key result }
     {
-        let marks: [u8; KEYS] = marks_from(self, key);
-        let classes = Set64::of_those(64, |class| marks[class] == 1);
-        let ends = Set64::of_those(64, |end| marks[64 + end] == 1);
-        let torn = torn_sets(&self.rivals, classes) || key >= 64 && self.broken.has((key - 64) / 2);
-        Reach {
-            classes,
-            ends,
-            torn,
+        let keys = led[key];
+        let torn = torn_sets(&self.rivals, keys.classes)
+            || key >= 64 && self.broken.has((key - 64) / 2);
+        Reach { keys, torn }
+    }
+}
+
+/// A set of keys.
+#[derive(Clone, Copy)]
+pub(crate) struct KeySet {
+    pub(crate) classes: Set64,
+    // those from 64 on, as the ends
+    pub(crate) ends: Set64,
+}
+
+impl KeySet {
+    const EMPTY: KeySet = KeySet {
+        classes: Set64::EMPTY,
+        ends: Set64::EMPTY,
+    };
+
+    // Whether a key is in the set.
+    fn has(&self, key: usize) -> bool
+        requires { key < 128 }
+        ensures { Tells result (Holds self.now key) }
+    {
+        if key < 64 {
+            self.classes.has(key)
+        } else {
+            self.ends.has(key - 64)
+        }
+    }
+
+    // Adds a key.
+    fn insert(&mut self, key: usize)
+        requires { key < 128 }
+        ensures { AddsKey self.old key self.new }
+    {
+        if key < 64 {
+            self.classes.insert(key);
+        } else {
+            self.ends.insert(key - 64);
+        }
+    }
+
+    // Adds what lies beyond a key, if the set has the key.
+    fn pass(&mut self, via: usize, beyond: &KeySet)
+        requires { via < 128 }
+        ensures { PassesKey via beyond.now self.old self.new }
+    {
+        if self.has(via) {
+            self.classes.join(beyond.classes);
+            self.ends.join(beyond.ends);
         }
     }
 }
@@ -99,10 +176,8 @@ impl KeyLinks {
 /// What a key leads to.
 #[derive(Clone, Copy)]
 pub(crate) struct Reach {
-    // the classes that it leads to
-    pub(crate) classes: Set64,
-    // the ends that it leads to have at least once
-    pub(crate) ends: Set64,
+    // the classes that it leads to, and the ends that it leads to have at least once
+    pub(crate) keys: KeySet,
     // whether it leads to two that clash, or its arrow does
     pub(crate) torn: bool,
 }
@@ -125,6 +200,7 @@ impl Web for Keys {
     }
 
     fn next_link(&self, from: usize, at: usize) -> Option<usize> {
+        // key by key, 128 tests from each of 129 points: to turn the sets round first would take as many
         (at..KEYS).find(|to| self.linked(from, *to))
     }
 }
@@ -135,8 +211,9 @@ impl Keys {
         ensures { Surveyed schema.now.sheet.rows.items 128 result }
     {
         let web = KeyLinks::of(&schema.sheet);
+        let led = web.closed();
         Keys {
-            reaches: array::from_fn(|key| web.study(key)),
+            reaches: array::from_fn(|key| web.study(&led, key)),
         }
     }
 
@@ -147,8 +224,8 @@ impl Keys {
     {
         let reach = self.reaches[to];
         match from {
-            0..=63 => reach.classes.has(from),
-            64..=127 => reach.ends.has(from - 64) || from / 2 == to / 2,
+            0..=63 => reach.keys.has(from),
+            64..=127 => reach.keys.has(from) || from / 2 == to / 2,
             KEYS => reach.torn,
             _ => false,
         }
