@@ -17,7 +17,6 @@ use crate::schema::Schema;
 use crate::set64::Set64;
 use crate::sound_sheet::SoundSheet;
 use search::web::Web;
-use std::array;
 
 /// How many keys there are; the point of the same number leads to those that clash.
 // A key is a plain number, as the search wants it: an enum would only be made from it where each test now stands.
@@ -100,7 +99,12 @@ impl KeyLinks {
     fn closed(&self) -> [KeySet; KEYS]
         ensures { LedTo self.now result }
     {
-        let mut led = array::from_fn(|key| self.near(key));
+        let mut led = [KeySet::EMPTY; KEYS];
+        // a loop here and in `survey`, since with array::from_fn, which proves too, the crate's statements cannot be
+        // written for those above it
+        for key in 0..KEYS {
+            led[key] = self.near(key);
+        }
         for via in 0..KEYS {
             let beyond = led[via];
             for keys in led.iter_mut() {
@@ -182,6 +186,13 @@ pub(crate) struct Reach {
     pub(crate) torn: bool,
 }
 
+impl Reach {
+    const BLANK: Reach = Reach {
+        keys: KeySet::EMPTY,
+        torn: false,
+    };
+}
+
 /// What each key leads to.
 #[derive(Drop)]
 pub(crate) struct Keys {
@@ -212,9 +223,11 @@ impl Keys {
     {
         let web = KeyLinks::of(&schema.sheet);
         let led = web.closed();
-        Keys {
-            reaches: array::from_fn(|key| web.study(&led, key)),
+        let mut reaches = [Reach::BLANK; KEYS];
+        for key in 0..KEYS {
+            reaches[key] = web.study(&led, key);
         }
+        Keys { reaches }
     }
 
     // Whether a link leads backward from one point to a key.

@@ -32,7 +32,7 @@ impl Set64 {
         ensures { Chosen (F.post test) end result }
     {
         let mut found = Set64::EMPTY;
-        // a loop, since neither from_iter nor the closure of a fold knows that its numbers are below 64
+        // a loop, which is plainer than a fold: its closure would have to ask for a k below `end`, where `test` may be called
         for k in 0..end {
             if test(k) {
                 found.insert(k);

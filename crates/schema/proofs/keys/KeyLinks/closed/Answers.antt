@@ -1,16 +1,18 @@
-use Rattle.std.proofs.Common.{◌≡◌, ℕ, get_or, subst, rules, arith}
+use Rattle.std.proofs.Common.{◌≡◌, ℕ, get_or, subst, arith}
 use Rattle.std.proofs.lemmas.List.{get_or_default}
 use Rattle.schema.specs.declared.keys.KeySet.{KeySet}
 use Rattle.schema.specs.Keys.{none, NearKey, PassesKey}
 use Rattle.schema.proofs.Closings.{Closing, Passed, closing_led, closing_more, passed_more}
-use Rattle.schema.proofs.Fillings.{each}
+use Rattle.schema.proofs.Fillings.{filled_more}
 use Rattle.schema.proofs.keys.KeyLinks.closed.Goals as goal
+
+pub loop-key-preserved : goal.loop-key-preserved
+loop-key-preserved c = filled_more (NearKey c.args.self.now) c.loop-key.led c.loop-key.key c.near.result none (omega arith) c.loop-key.invariant c.near.ensures
 
 pub loop-via-init : goal.loop-via-init
 loop-via-init c =
-    let w = c.args.self.now in
     record {
-      near = λ k l. each _ _ (NearKey w) (λ i y q t. (search rules, search rules)) _ 0 128 c.from_fn-led.ensures.items.each k none (omega arith) l;
+      near = λ k l. c.loop-key.invariant k (omega arith);
       closed = λ v i j l h x y. absurd (omega arith);
     }
 
