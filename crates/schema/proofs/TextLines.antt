@@ -1,6 +1,7 @@
 -- A text from its lines.
-use Rattle.std.proofs.Common.{◌≡◌, ℕ, suc, ◌+◌, ◌*◌, ◌<◌, ◌≤◌, List, [], ◌∷◌, ◌++◌, length, get_or, take, drop, sym, refl, ap, ◌∙◌, subst, arith, length-append, length-drop, drop-drop, below_more}
-use Rattle.std.proofs.lemmas.List.{take-append-drop, nil_from_length, get_or_append_left, get_or_push, take_at, drop_at}
+use Rattle.std.proofs.Common.{◌≡◌, ℕ, zero, suc, ◌+◌, ◌*◌, ◌<◌, ◌≤◌, List, [], ◌∷◌, ◌++◌, length, get_or, take, drop, sym, refl, ap, ◌∙◌, subst, arith, length-append, length-drop, drop-drop, below_more}
+use Rattle.std.proofs.lemmas.List.{take-append-drop, nil_from_length, get_or_append_left, get_or_push}
+use Rattle.std.specs.Simd.{first_chunks}
 use Rattle.schema.specs.declared.row.Row.{Row}
 use Rattle.schema.specs.declared.faults.LineFault.{LineFault}
 use Rattle.schema.specs.declared.faults.TextFault.TheVariants.{Line}
@@ -14,16 +15,19 @@ use Rattle.schema.proofs.Members.{every_∈}
 pub heads_from : (text : List ℕ) (c p n : ℕ) → 14 ≤ length text → (c ≤ 9999) × (p ≤ 9999) × (n ≤ 9999) × (line_at text 0 ≡ head_line c p n) → Heads text c p n
 heads_from text c p n h (hc, hp, hn, s) = record { long = h; c_fits = hc; p_fits = hp; n_fits = hn; first = s }
 
--- the first line of what is left after line n, and what is left after that
-pub next_line : (text rest line after : List ℕ) (m n : ℕ) → length text ≡ 14 * (m + 1) → rest ≡ drop (14 * (n + 1)) text → rest ≡ line ++ after → length line ≡ 14
-    → (n < m) × (line ≡ line_at text (n + 1)) × (after ≡ drop (14 * ((n + 1) + 1)) text)
-next_line text rest line after m n total e f long =
-    let left : line ++ after ≡ drop (14 * (n + 1)) text = sym f ∙ e in
-    let next : 14 * (n + 1) + 14 ≡ 14 * ((n + 1) + 1) = omega arith in (
-      omega (arith, simp (length-append, length-drop) at (ap length left)),
-      sym (take_at line after 14 long) ∙ ap (take 14) left,
-      sym (drop_at line after 14 long) ∙ ap (drop 14) left ∙ drop-drop 14 (14 * (n + 1)) text ∙ ap (λ k. drop k text) next,
-    )
+-- a chunk of 14 bytes
+chunk_at : (k i : ℕ) (xs d : List ℕ) → i < k → get_or (first_chunks 14 k xs) i d ≡ line_at xs i
+chunk_at zero i xs d h = absurd (omega arith)
+chunk_at (suc k) zero xs d h = refl
+chunk_at (suc k) (suc i) xs d h =
+    let next : 14 + 14 * i ≡ 14 * suc i = omega arith in
+    chunk_at k i (drop 14 xs) d (omega arith) ∙ ap (take 14) (drop-drop (14 * i) 14 xs ∙ ap (λ n. drop n xs) next)
+
+-- the chunks of the text after line 1 are its lines
+pub line_chunk : (text : List ℕ) (k i : ℕ) (d : List ℕ) → i < k → get_or (first_chunks 14 k (drop 14 text)) i d ≡ line_at text (i + 1)
+line_chunk text k i d h =
+    let next : 14 + 14 * i ≡ 14 * (i + 1) = omega arith in
+    chunk_at k i (drop 14 text) d h ∙ ap (take 14) (drop-drop (14 * i) 14 text ∙ ap (λ n. drop n text) next)
 
 -- the rows read so far, and the line that comes next
 pub until_from : (text : List ℕ) (c p n i : ℕ) (rows : List Row) → Headed text c p n → i < n → length rows ≡ i → RowsRead text c p rows → Until text c p n i

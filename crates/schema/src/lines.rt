@@ -1,5 +1,5 @@
 //! Lines: a letter, three numbers of four columns each and a line feed.
-ghost use Rattle.std.specs.Prelude.{◌≡◌, ℕ, ◌≤◌, true, length, Decides, MatchResult};
+ghost use Rattle.std.specs.Prelude.{◌≡◌, ℕ, ◌≤◌, true, Decides, MatchResult};
 ghost use Rattle.schema.specs.Rows.{Sound};
 ghost use Rattle.schema.specs.Texts.{line, row_line, BadColumn, RowLetter};
 ghost use Rattle.schema.specs.Texts.{Header as HeaderLetter};
@@ -10,6 +10,7 @@ use crate::columns::read_group;
 use crate::counts::Counts;
 use crate::faults::{ColumnFault, LineFault};
 use crate::letters::unsound_field;
+use crate::limits::LINE_BYTES;
 use crate::row::Row;
 
 // Where the parts of a line begin, from 1.
@@ -42,8 +43,7 @@ pub(crate) struct Header {
 }
 
 /// The first line of a text.
-pub(crate) fn header_line(bytes: &[u8]) -> Result<Header, LineFault>
-    requires { length bytes.now ≡ 14 }
+pub(crate) fn header_line(bytes: &[u8; LINE_BYTES]) -> Result<Header, LineFault>
     ensures { MatchResult result (λ h. (h.classes ≤ 9999) × (h.arrows ≤ 9999) × (h.rows ≤ 9999) × (bytes.now ≡ head_line h.classes h.arrows h.rows)) (λ e. (k : ℕ) × (e ≡ Form (record { line = 1; column = k })) × BadColumn HeaderLetter bytes.now k) }
 {
     let parts = read_line(bytes, 1, |letter| matches!(letter, b'H'))?;
@@ -55,8 +55,11 @@ pub(crate) fn header_line(bytes: &[u8]) -> Result<Header, LineFault>
 }
 
 /// The line of a row, which is in form and sound for the counts of line 1.
-pub(crate) fn row_line(bytes: &[u8], number: u16, counts: Counts) -> Result<Row, LineFault>
-    requires { length bytes.now ≡ 14 }
+pub(crate) fn row_line(
+    bytes: &[u8; LINE_BYTES],
+    number: u16,
+    counts: Counts,
+) -> Result<Row, LineFault>
     ensures { MatchResult result (λ row. (bytes.now ≡ row_line row) × Sound counts.classes counts.arrows row) (λ e. LineFaulty bytes.now number counts.classes counts.arrows e) }
 {
     let Line { letter, a, b, n } = read_line(bytes, number, begins_row)?;
@@ -79,13 +82,16 @@ fn begins_row(letter: u8) -> bool
 }
 
 // A line in form, with a letter that may begin it. It is taken apart as the project's rules want: letter, first group's
-// bytes, rest.
-fn read_line<F: Fn(u8) -> bool>(bytes: &[u8], number: u16, begins: F) -> Result<Line, ColumnFault>
+// bytes, rest. As a slice, since no pattern with a rest was proved of an array, by reference or by value.
+fn read_line<F: Fn(u8) -> bool>(
+    bytes: &[u8; LINE_BYTES],
+    number: u16,
+    begins: F,
+) -> Result<Line, ColumnFault>
     requires callable { F.IsAlwaysCallable begins }
-    requires long { length bytes.now ≡ 14 }
     ensures { MatchResult result (λ l. F.post begins l.letter true × (bytes.now ≡ line l.letter l.a l.b l.n)) (λ e. (e.line ≡ number) × LineStrays (F.post begins) bytes.now e.column) }
 {
-    let [letter, a0, a1, a2, a3, rest @ ..] = bytes else {
+    let [letter, a0, a1, a2, a3, rest @ ..] = bytes.as_slice() else {
         unreachable()
     };
     let [b0, b1, b2, b3, n0, n1, n2, n3, feed] = rest else {

@@ -80,10 +80,8 @@ impl Sheet for TextSheet {
 fn read_header(text: &[u8]) -> Result<Counts, TextFault>
     ensures { MatchResult result (λ c. (n : ℕ) × Headed text.now c.classes c.arrows n) (λ f. TextFaulty text.now f) }
 {
-    if text.len() < LINE_BYTES {
-        return Err(TextFault::TooShort);
-    }
-    let header = header_line(&text[..LINE_BYTES])?;
+    let first = text.first_chunk::<LINE_BYTES>().ok_or(TextFault::TooShort)?;
+    let header = header_line(first)?;
     let counts = Counts::within(header.classes, header.arrows).ok_or(TextFault::TooLarge)?;
     let len = usize::from(header.rows);
     if len > MOST_ROWS {
@@ -101,7 +99,8 @@ fn read_rows(text: &[u8], counts: Counts) -> Result<ArrayVec<Row, MOST_ROWS>, Te
     ensures { MatchResult result (λ rows. Headed text.now counts.classes counts.arrows (array_vec_len rows) × RowsRead text.now counts.classes counts.arrows rows.items) (λ f. TextFaulty text.now f) }
 {
     let mut rows = ArrayVec::new();
-    for (i, line) in text[LINE_BYTES..].chunks_exact(LINE_BYTES).enumerate() {
+    let (lines, _) = text[LINE_BYTES..].as_chunks::<LINE_BYTES>();
+    for (i, line) in lines.iter().enumerate() {
         // a cast, since `try_from` would add an error that cannot come
         let number = (i + 2) as u16;
         let row = row_line(line, number, counts)?;
