@@ -50,7 +50,7 @@ pub(crate) fn shared_arrows(sheet: &SoundSheet) -> Set64
     ensures { Shared sheet.now.rows.items result }
 {
     let mut shared = Set64::EMPTY;
-    // a loop, since the closure of a fold would have to ask for sound rows, for the bound of insert
+    // a loop, which is plainer than a fold: its closure would have to ask for a sound row, for the bound of insert
     for row in sheet.rows() {
         // a byte, as `Row` has it
         if row.letter == b'P' && row.a != row.b {
