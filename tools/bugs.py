@@ -58,7 +58,7 @@ BUGS = [
     ("an arrow's tail leads along to heads", "schema", "src/descriptions.rt",
      "            32 * (end % 2) + times,", "            32 * (1 - end % 2) + times,"),
     ("the last need counts in place of the highest", "schema", "src/descriptions/class.rt",
-     "        self.counts[end] = self.counts[end].max(times);", "        self.counts[end] = times;"),
+     "        self.counts[end] = self.counts[end].max(times as u8);", "        self.counts[end] = times as u8;"),
     ("arrows clash in one order only", "schema", "src/clashes.rt",
      "            || is_marked(first, two) && is_marked(second, one),",
      "            || is_marked(first, one) && is_marked(second, two),"),

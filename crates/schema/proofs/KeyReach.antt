@@ -39,14 +39,14 @@ pub key_of_keyed : (k : ℕ) → key_of (keyed k) ≡ k
 key_of_keyed k =
     ⊎_elim (λ (l : k < 64). ap key_of (keyed_class k l)) (λ (l : 64 ≤ k). ap key_of (keyed_end k l) ∙ omega arith) (cases_lt k 64)
 
-module _ (rows : List Row) (w : KeyLinks) (built : Built rows w.links) (sound : AllSound 64 32 rows) where
+module _ (rows : List Row) (w : KeyLinks) (built : Built rows w.links.now) (sound : AllSound 64 32 rows) where
   abbrev Step : ℕ → ℕ → Type 0
   Step = Joined 128 (Forward w)
 
   -- a way of the rows' web that a link between keys stands for
   end_way : (i e : ℕ) → i < 128 → e < 64 → ForwardEnd w i e → Leads (Link rows) (keyed i) (mark e 1)
   end_way i e h l (by_need s m) =
-      let n = count (counts_of w.links.classes) i e in
+      let n = count (counts_of w.links.now.classes) i e in
       let pos : 0 < n = built.needs.some i e l m in
       let has : Has rows (F i e n) = built.needs.only i e l pos in
       subst (λ (d : Description). Leads (Link rows) d (mark e 1)) (sym (keyed_class i s))
@@ -83,8 +83,8 @@ module _ (rows : List Row) (w : KeyLinks) (built : Built rows w.links) (sound : 
       let r = sound (row (F a e n)) h in leads_one (end_step a e (omega arith) (omega (arith, r.1)) (by_need k (built.needs.all a e n h).0))
   link_keys (by_D {e} {b} h) k =
       let r = sound (row (D e b)) h in
-      let m : Member (get_or w.links.domains (64 + e - 64) 0) b =
-      subst (λ (x : ℕ). Member (get_or w.links.domains x 0) b) (back e) (built.domains.all e b h) in
+      let m : Member (get_or w.links.now.domains (64 + e - 64) 0) b =
+      subst (λ (x : ℕ). Member (get_or w.links.now.domains x 0) b) (back e) (built.domains.all e b h) in
       leads_one (omega arith, omega (arith, r.1), end_class (omega arith) (omega arith) r.1 m)
     where
       back : (x : ℕ) → x ≡ 64 + x - 64
@@ -94,7 +94,7 @@ module _ (rows : List Row) (w : KeyLinks) (built : Built rows w.links) (sound : 
       let r = sound (row (P (arrow e) (arrow f))) h in
       let a : arrow e ≡ (64 + e - 64) / 2 = omega arith in
       leads_one (end_step (64 + e) f (omega arith) (omega (arith, r.1))
-      (by_arrow (omega arith) (omega arith) (omega (arith, r.1)) (subst (λ (x : ℕ). Member (get_or w.links.arrows.overs x 0) (arrow f)) a (built.overs.all (arrow e) (arrow f) h))))
+      (by_arrow (omega arith) (omega arith) (omega (arith, r.1)) (subst (λ (x : ℕ). Member (get_or w.links.now.arrows.overs x 0) (arrow f)) a (built.overs.all (arrow e) (arrow f) h))))
 
   keys_below : {d u : Description} → Leads (Link rows) d u → Placed d → Leads Step (key_of d) (key_of u)
   keys_below stay h = stay

@@ -30,4 +30,7 @@ module _ (rows : List Row) (i : ℕ) (d : Row) (sound : AllSound 64 32 rows) (l 
   pub row_need : (get_or rows i d).letter ≡ 70 → (get_or rows i d).n < 32
   row_need e = let f = fits_at (get_or rows i d) 70 e (sound _ (Contains-get_or rows i d l)) in omega (arith, f.3)
 
-pub ruleset row_bounds = (row_a, row_b, row_arrow, row_need)
+  pub row_cap : (get_or rows i d).letter ≡ 75 → (get_or rows i d).n < 32
+  row_cap e = let f = fits_at (get_or rows i d) 75 e (sound _ (Contains-get_or rows i d l)) in omega (arith, f.3)
+
+pub ruleset row_bounds = (row_a, row_b, row_arrow, row_need, row_cap)

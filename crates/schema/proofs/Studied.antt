@@ -34,8 +34,8 @@ module _ (rows : List Row) (w : KeyLinks) (built : KeyBuilt rows w) (sound : All
       → Tells torn (TornSets w.rivals set ⊎ ((64 ≤ k) × Member w.broken ((k - 64) / 2))) → Tells torn (Torn rows k)
   torn_known torn set c b =
       tells_same torn
-      (λ s. ⊎_elim (λ t. inl (sets_clash rows sound uncapped w.links built.links w.rivals built.rivals k set c t)) (λ h. inr (h.0, built.broken.only ((k - 64) / 2) h.1)) s)
-      (λ s. ⊎_elim (λ t. inl (clash_sets rows sound uncapped w.links built.links w.rivals built.rivals k set c t)) (λ h. inr (h.0, built.broken.all ((k - 64) / 2) (omega arith) h.1)) s)
+      (λ s. ⊎_elim (λ t. inl (sets_clash rows sound uncapped w.links.now built.links w.rivals built.rivals k set c t)) (λ h. inr (h.0, built.broken.only ((k - 64) / 2) h.1)) s)
+      (λ s. ⊎_elim (λ t. inl (clash_sets rows sound uncapped w.links.now built.links w.rivals built.rivals k set c t)) (λ h. inr (h.0, built.broken.all ((k - 64) / 2) (omega arith) h.1)) s)
       b
 
   -- what is learned of a key in its web is so in the rows

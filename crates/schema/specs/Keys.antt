@@ -73,13 +73,13 @@ pub record TornSets (sets : List ℕ) (classes : ℕ) : Type 0 where
 
 -- an end that a key links to: a class by a need, an end by an arrow that its arrow lies in
 pub data ForwardEnd (w : KeyLinks) (i e : ℕ) : Type 0 where
-  by_need : i < 64 → Member (slice_index (needs_of w.links.classes) i) e → ForwardEnd w i e
-  by_arrow : 64 ≤ i → i % 2 ≡ e % 2 → e < 64 → Member (slice_index w.links.arrows.overs ((i - 64) / 2)) (e / 2) → ForwardEnd w i e
+  by_need : i < 64 → Member (slice_index (needs_of w.links.now.classes) i) e → ForwardEnd w i e
+  by_arrow : 64 ≤ i → i % 2 ≡ e % 2 → e < 64 → Member (slice_index w.links.now.arrows.overs ((i - 64) / 2)) (e / 2) → ForwardEnd w i e
 
 -- a link between keys
 pub data Forward (w : KeyLinks) (i j : ℕ) : Type 0 where
-  class_class : i < 64 → j < 64 → Member (slice_index (supers_of w.links.classes) i) j → Forward w i j
-  end_class : 64 ≤ i → i < 128 → j < 64 → Member (slice_index w.links.domains (i - 64)) j → Forward w i j
+  class_class : i < 64 → j < 64 → Member (slice_index (supers_of w.links.now.classes) i) j → Forward w i j
+  end_class : 64 ≤ i → i < 128 → j < 64 → Member (slice_index w.links.now.domains (i - 64)) j → Forward w i j
   to_an_end : i < 128 → 64 ≤ j → j < 128 → ForwardEnd w i (j - 64) → Forward w i j
 
 abbrev pub none : KeySet
@@ -138,8 +138,8 @@ Torn rows k = Clashing (Link rows) (Apart rows) (keyed k) (keyed k) ⊎ ((64 ≤
 
 -- the web of keys, and what clashes in it
 pub record KeyBuilt (rows : List Row) (w : KeyLinks) : Type 0 where
-  pub links : Built rows w.links
-  pub rivals : RivalSets w.links rows w.rivals
+  pub links : Built rows w.links.now
+  pub rivals : RivalSets w.links.now rows w.rivals
   pub broken : Gathers (ArrowTorn rows) 32 w.broken
 
 -- where the web of keys leads from a key

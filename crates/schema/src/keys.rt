@@ -6,6 +6,7 @@
 //! that leads to it, and between the two ends of an arrow.
 ghost use Rattle.std.specs.Prelude.{◌≡◌, ◌+◌, ◌-◌, ◌*◌, ◌/◌, ◌<◌};
 ghost use Rattle.schema.specs.Keys.{Forward, Backward, EmptyKeys, KeyBuilt, Holds, AddsKey, PassesKey, NearKey, LedTo, Studied, Surveyed};
+ghost use Rattle.schema.specs.Points.{Built};
 ghost use Rattle.schema.specs.Verdicts.{Tells};
 ghost use Rattle.std.proofs.Common.{rules};
 
@@ -24,15 +25,15 @@ pub(crate) const KEYS: usize = 128;
 
 /// The links between keys, of some rows, and what clashes.
 #[derive(Drop)]
-pub(crate) struct KeyLinks {
-    pub(crate) links: Descriptions,
+pub(crate) struct KeyLinks<'a> {
+    pub(crate) links: &'a Descriptions,
     // of a class: the classes whose members cannot be in it
     pub(crate) rivals: [Set64; 64],
     // the arrows that lead to two that clash
     pub(crate) broken: Set64,
 }
 
-impl Web for KeyLinks {
+impl Web for KeyLinks<'_> {
     ghost size = { λ _. 128 };
 
     ghost link = { Forward };
@@ -44,9 +45,10 @@ impl Web for KeyLinks {
     }
 
     fn next_link(&self, from: usize, at: usize) -> Option<usize> {
+        let links = self.links;
         let classes = match from {
-            0..=63 => self.links.classes[from].supers,
-            64..=127 => self.links.domains[from - 64],
+            0..=63 => links.classes[from].supers,
+            64..=127 => links.domains[from - 64],
             _ => return None,
         };
         if let Some(class) = classes.next_from(at) {
@@ -55,21 +57,21 @@ impl Web for KeyLinks {
         // the ends come after the 64 classes
         let low = at.saturating_sub(64);
         let end = if from < 64 {
-            self.links.classes[from].needs.next_from(low)
+            links.classes[from].needs.next_from(low)
         } else {
-            self.links.arrows.overs[(from - 64) / 2].next_strided::<2>(from % 2, low, 64)
+            links.arrows.overs[(from - 64) / 2].next_strided::<2>(from % 2, low, 64)
         };
         Some(64 + end?)
     }
 }
 
-impl KeyLinks {
-    // The web of the keys of a sheet.
-    fn of(sheet: &SoundSheet) -> KeyLinks
+impl KeyLinks<'_> {
+    // The web of the keys of a sheet, over its links.
+    fn of<'a>(sheet: &SoundSheet, links: &'a Descriptions) -> KeyLinks<'a>
+        requires { Built sheet.now.rows.items links.now }
         ensures { KeyBuilt sheet.now.rows.items result }
     {
-        let links = Descriptions::of(sheet);
-        let rivals = list_rivals(sheet, &links);
+        let rivals = list_rivals(sheet, links);
         let broken = torn_arrows(sheet, &links.arrows);
         KeyLinks {
             links,
@@ -221,7 +223,8 @@ impl Keys {
     fn survey(schema: &Schema) -> Keys
         ensures { Surveyed schema.now.sheet.rows.items 128 result }
     {
-        let web = KeyLinks::of(&schema.sheet);
+        let links = Descriptions::of(&schema.sheet);
+        let web = KeyLinks::of(&schema.sheet, &links);
         let led = web.closed();
         let mut reaches = [Reach::BLANK; KEYS];
         for key in 0..KEYS {

@@ -41,7 +41,10 @@ pub fn reprint(text: &[u8], bytes: &mut [u8]) -> Result<usize, ReprintFault>
 {
     let sheet = TextSheet::read(text)?;
     // A text's rows are sound and few, so that only the room can be wanting.
-    print(&sheet, bytes).map_err(|_| ReprintFault::ShortBuffer)
+    let Ok(len) = print(&sheet, bytes) else {
+        return Err(ReprintFault::ShortBuffer);
+    };
+    Ok(len)
 }
 
 // Writes the header and a line for each row, and answers where they end.

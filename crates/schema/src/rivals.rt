@@ -22,14 +22,15 @@ pub(crate) fn list_rivals(sheet: &SoundSheet, links: &Descriptions) -> [Set64; 6
         // a byte, as `Row` has it
         match row.letter {
             b'X' => rivals[a].insert(b),
-            b'K' => rivals[a].join(needing_more(links, b, row.n)),
+            // a cast, since `try_from` would add an error that cannot come
+            b'K' => rivals[a].join(needing_more(links, b, row.n as u8)),
             _ => {}
         }
     }
     rivals
 }
 
-fn needing_more(links: &Descriptions, end: usize, cap: u16) -> Set64
+fn needing_more(links: &Descriptions, end: usize, cap: u8) -> Set64
     requires { end < 64 }
     ensures { Gathers (λ a. cap < count (counts_of links.now.classes) a end) 64 result }
 {

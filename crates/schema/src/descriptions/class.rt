@@ -11,8 +11,9 @@ pub(crate) struct Class {
     pub(crate) supers: Set64,
     // the ends that it needs
     pub(crate) needs: Set64,
-    // of an end: how often the class needs it, at most
-    pub(crate) counts: [u16; 64],
+    // of an end: how often the class needs it, at most. Bytes, since 64 of these tables stand on the stack, more than once
+    // where they are handed up.
+    pub(crate) counts: [u8; 64],
     ghost few: { (e : ℕ) → slice_index counts e < 32 },
 }
 
@@ -30,7 +31,8 @@ impl Class {
         ensures counts { Raised self.old.counts end times self.new.counts }
     {
         self.needs.insert(end);
-        self.counts[end] = self.counts[end].max(times);
+        // a cast, since `try_from` would add an error that cannot come
+        self.counts[end] = self.counts[end].max(times as u8);
     }
 
     /// The lowest point from `at` on that the class links to.

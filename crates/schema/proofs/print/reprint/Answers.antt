@@ -1,7 +1,9 @@
-use Rattle.std.proofs.Common.{rules}
 use Rattle.schema.specs.TextSheets.{text_shows}
-use Rattle.schema.proofs.Trips.{reprinted}
+use Rattle.schema.proofs.Trips.{short_reprint}
 use Rattle.schema.proofs.print.reprint.Goals as goal
 
-pub returns : goal.returns
-returns c = reprinted c.args.text.now c.args.bytes.now c.print.new.bytes (text_shows c.in_ok-sheet.sheet) c.print.result c.map_err.result _ (λ f e p. search rules) c.in_ok-sheet.ensures c.map_err.ensures.cases c.print.ensures
+pub returns-in_default : goal.returns-in_default
+returns-in_default c =
+    let t = c.in_ok-sheet.ensures.tells in
+    let short = short_reprint (text_shows c.in_ok-sheet.sheet) c.args.bytes.now c.print.new.bytes c.in_default.field-0 t c.in_default.ensures in
+    ((_, _, _, t), short.0, short.1)

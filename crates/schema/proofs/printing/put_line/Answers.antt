@@ -1,8 +1,11 @@
-use Rattle.std.proofs.Common.{◌∙◌, arith}
-use Rattle.schema.specs.Texts.{line}
-use Rattle.schema.proofs.Splices.{part_spliced}
+use Rattle.std.proofs.Common.{arith}
+use Rattle.std.proofs.lemmas.List.{length-set}
+use Rattle.schema.proofs.Splices.{line_spliced}
 use Rattle.schema.proofs.printing.put_line.Goals as goal
 
 pub returns : goal.returns
 returns c =
-    part_spliced c.args.at _ c.args.bytes.now _ (line c.args.parts.letter c.args.parts.a c.args.parts.b c.args.parts.n) (c.copy_from_slice.ensures.after ∙ c.line_of.ensures) (omega arith)
+    let s = c.args.bytes.now in
+    let l = c.args.parts in
+    line_spliced c.args.at l.letter l.a l.b l.n s _ _ _ (omega arith)
+    (omega (arith, length-set s c.args.at l.letter)) c.put_group.ensures c.put_group-2.ensures c.put_group-3.ensures
