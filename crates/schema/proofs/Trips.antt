@@ -1,12 +1,9 @@
 -- From a text to a sheet and back, and from a sheet to a text and back.
-use Rattle.std.proofs.Common.{◌≡◌, ℕ, ◌<◌, List, length, take, Ok, Err, Result, MatchResult, sym, ap, ◌∙◌, subst, arith}
-use Rattle.std.specs.Result.{IsErrAnd}
+use Rattle.std.proofs.Common.{◌≡◌, ℕ, ◌<◌, List, length, take, Err, sym, ap, ◌∙◌, subst, arith}
 use Rattle.schema.specs.declared.faults.TextFault.{TextFault}
 use Rattle.schema.specs.declared.faults.PrintFault.{PrintFault}
 use Rattle.schema.specs.declared.faults.PrintFault.TheVariants.{Sheet, ShortBuffer}
-use Rattle.schema.specs.declared.faults.ReprintFault.{ReprintFault}
-use Rattle.schema.specs.declared.faults.ReprintFault.TheVariants.{ShortBuffer as ShortReprint}
-use Rattle.schema.specs.Prints.{Prints, Printed, Reprinted}
+use Rattle.schema.specs.Prints.{Prints, Printed, Repeats}
 use Rattle.schema.specs.Sheets.{Shown}
 use Rattle.schema.specs.Texts.{IsText, TextFaulty}
 use Rattle.schema.specs.TextSheets.{TextRead}
@@ -20,12 +17,10 @@ short_reprint s before after (Sheet f) t h = absurd (told_faultless t h.0)
 short_reprint s before after ShortBuffer t h =
     let long = ap length t.bytes ∙ length_text s.classes s.arrows s.rows in (omega (arith, h.2, long), h.3)
 
--- what a text told is its text again where it is printed, and refused only for want of room
-pub reprinted : (text before after : List ℕ) (s : Shown) (r : Result ℕ PrintFault) (m : Result ℕ ReprintFault) (Post : PrintFault → ReprintFault → Type 0)
-    → ((f : PrintFault) (e : ReprintFault) → Post f e → e ≡ ShortReprint) → TextRead text s
-    → MatchResult r (λ n. m ≡ Ok n) (λ f. IsErrAnd m (Post f)) → Printed s before r after → Reprinted text before m after
-reprinted text before after s (Ok n) m Post short t e p =
-    subst (λ (x : Result ℕ ReprintFault). Reprinted text before x after) (sym e)
+-- what a text told is its text again where it is printed, by whatever way the length is answered
+pub repeats : {text before after : List ℕ} (s : Shown) (n len : ℕ) → n ≡ len → TextRead text s → Prints s before len after → Repeats text before n after
+repeats {text} {before} {after} s n len e t p =
+    subst (λ (x : ℕ). Repeats text before x after) (sym e)
     (record {
       accepted = (s.classes, s.arrows, s.rows, t.tells);
       room = p.room;
@@ -33,10 +28,6 @@ reprinted text before after s (Ok n) m Post short t e p =
       same = p.tells.bytes ∙ sym t.tells.bytes;
       later = p.later;
     })
-reprinted text before after s (Err f) (Ok n) Post short t h p = absurd h
-reprinted text before after s (Err f) (Err e) Post short t h p =
-    let room = short_reprint s before after f t.tells p in
-    subst (λ (x : ReprintFault). Reprinted text before (Err x) after) (sym (short f e h)) ((s.classes, s.arrows, s.rows, t.tells), room.0, room.1)
 
 -- a printed sheet can be read back
 pub reads_back : (s : Shown) {text before after : List ℕ} {len : ℕ} {f : TextFault} → text ≡ take len after → Prints s before len after → TextFaulty text f → ⊥

@@ -12,6 +12,8 @@ use crate::set64::Set64;
 use crate::sound_sheet::SoundSheet;
 
 /// Checks that each of some rows, which are within the limit, is sound.
+// Not inlined, so that what copies a sheet stays small enough to be: otherwise it is copied once more.
+#[inline(never)]
 pub(crate) fn check_sound(rows: &[Row], counts: Counts) -> Result<(), SheetFault>
     requires { length rows.now ≤ 512 }
     ensures { MatchResult result (λ _. AllSound counts.classes counts.arrows rows.now) (λ f. SheetFaulty counts.classes counts.arrows rows.now f) }

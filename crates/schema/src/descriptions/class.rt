@@ -11,8 +11,7 @@ pub(crate) struct Class {
     pub(crate) supers: Set64,
     // the ends that it needs
     pub(crate) needs: Set64,
-    // of an end: how often the class needs it, at most. Bytes, since 64 of these tables stand on the stack, more than once
-    // where they are handed up.
+    // of an end: how often the class needs it, at most. Bytes, since a web with its 64 classes stands on the stack.
     pub(crate) counts: [u8; 64],
     ghost few: { (e : ℕ) → slice_index counts e < 32 },
 }

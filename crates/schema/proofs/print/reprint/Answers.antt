@@ -1,6 +1,12 @@
+use Rattle.std.proofs.Common.{arith}
 use Rattle.schema.specs.TextSheets.{text_shows}
-use Rattle.schema.proofs.Trips.{short_reprint}
+use Rattle.schema.proofs.Trips.{short_reprint, repeats}
 use Rattle.schema.proofs.print.reprint.Goals as goal
+
+-- the check finds this one alone, but not for a body that says the same length in another way: so an edit that says
+-- another one fails by that
+pub returns : goal.returns
+returns c = repeats (text_shows c.in_ok-sheet.sheet) _ c.in-Ok.len (omega arith) c.in_ok-sheet.ensures c.in-Ok.ensures
 
 pub returns-in_default : goal.returns-in_default
 returns-in_default c =
