@@ -12,7 +12,7 @@ use crate::set64::Set64;
 use crate::sound_sheet::SoundSheet;
 
 /// Checks that each of some rows, which are within the limit, is sound.
-// Not inlined, so that what copies a sheet stays small enough to be: otherwise it is copied once more.
+// Not inlined, so that `SoundSheet::of` stays small enough to be inlined; otherwise it hands up one more copy of the sheet.
 #[inline(never)]
 pub(crate) fn check_sound(rows: &[Row], counts: Counts) -> Result<(), SheetFault>
     requires { length rows.now ≤ 512 }

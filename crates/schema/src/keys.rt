@@ -65,9 +65,9 @@ impl Web for KeyLinks<'_> {
     }
 }
 
-impl KeyLinks<'_> {
+impl<'a> KeyLinks<'a> {
     // The web of the keys of a sheet, over its links.
-    fn of<'a>(sheet: &SoundSheet, links: &'a Descriptions) -> KeyLinks<'a>
+    fn of(sheet: &SoundSheet, links: &'a Descriptions) -> KeyLinks<'a>
         requires { Built sheet.now.rows.items links.now }
         ensures { KeyBuilt sheet.now.rows.items result }
     {

@@ -3,8 +3,8 @@ use Rattle.schema.specs.TextSheets.{text_shows}
 use Rattle.schema.proofs.Trips.{short_reprint, repeats}
 use Rattle.schema.proofs.print.reprint.Goals as goal
 
--- the check finds this one alone, but not for a body that says the same length in another way: so an edit that says
--- another one fails by that
+-- The check finds this one alone, but not where a body says the same length in another way. With it an edit is refused
+-- for its length, and not for how it is written.
 pub returns : goal.returns
 returns c = repeats (text_shows c.in_ok-sheet.sheet) _ c.in-Ok.len (omega arith) c.in_ok-sheet.ensures c.in-Ok.ensures
 
